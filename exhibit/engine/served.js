@@ -3,34 +3,59 @@
 // The engine behind the page: exhibit/serve runs the proved native program for each call.
 //
 // openEngine() gives the same object as in inside.js, with the name "served", and about as {key: "served"}. A promise
-// fails with the server's sentence if it refuses a call or can't do it.
+// fails with the server's sentence if it refuses a call or can't do it. After a click a browser may draw the screen
+// before it hands over what a server answered; so the page names the calls that are likely to come next to `prepare`.
 
 async function openEngine() {
     const NO_SUCH_TASK = 1;
     const place = new URL("answer", location.href);
     let last = Promise.resolve();
 
+    // What was asked for ahead, by the body of its call.
+    const ahead = new Map();
+
     // The text as it is in UTF-8, so that half a surrogate pair becomes the same character as in inside.js.
     function inUtf8(text) {
         return new TextDecoder("utf-8", { ignoreBOM: true }).decode(new TextEncoder().encode(text));
     }
 
-    async function ask(task, plan, kinds, input) {
-        if (!Number.isInteger(task) || task < 0 || task >= 2 ** 32) return { status: NO_SUCH_TASK, text: "" };
-        const body = JSON.stringify({ task, plan: inUtf8(plan), kinds: inUtf8(kinds), input: inUtf8(input) });
+    function bodyOf(task, plan, kinds, input) {
+        return JSON.stringify({ task, plan: inUtf8(plan), kinds: inUtf8(kinds), input: inUtf8(input) });
+    }
+
+    async function ask(body, signal) {
         const headers = { "Content-Type": "application/json" };
-        const response = await fetch(place, { method: "POST", headers, body });
+        const response = await fetch(place, { method: "POST", headers, body, signal });
         if (!response.ok) throw new Error((await response.text()).trim());
         return response.json();
+    }
+
+    function askAhead(body) {
+        const stop = new AbortController(), answer = ask(body, stop.signal);
+        answer.catch(() => ahead.delete(body));
+        ahead.set(body, { answer, stop });
+    }
+
+    async function answerNow(task, ...given) {
+        if (!Number.isInteger(task) || task < 0 || task >= 2 ** 32) return { status: NO_SUCH_TASK, text: "" };
+        const body = bodyOf(task, ...given), prepared = ahead.get(body);
+        ahead.delete(body);
+        return prepared ? prepared.answer : ask(body);
     }
 
     return {
         name: "served",
         about: { key: "served" },
         // One call after the other.
-        answer(task, plan, kinds, input) {
-            last = last.catch(() => {}).then(() => ask(task, plan, kinds, input));
+        answer(...call) {
+            last = last.catch(() => {}).then(() => answerNow(...call));
             return last;
+        },
+        // Asks ahead for the answers to these calls, one of which is likely to come next, and no longer for others.
+        prepare(calls) {
+            const bodies = new Set(calls.map((call) => bodyOf(...call)));
+            for (const [body, { stop }] of ahead) if (!bodies.has(body)) { stop.abort(); ahead.delete(body); }
+            for (const body of bodies) if (!ahead.has(body)) askAhead(body);
         },
     };
 }

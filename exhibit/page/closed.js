@@ -19,7 +19,7 @@ class Closed {
     const lit = link => this.lit.set(link, { ...owner, kinds });
     if (kind === KINDS.lineSwitch) {
       this.end(this.layout.line(frame, number, value - 1), this.layout.at(kind, frame, number), owner);
-      this.labels.line(this.office, lineText(frame, number, value - 1));
+      this.labels.line(this.office, lineText(frame, number, value - 1), owner.kinds);
       lit(`LL${frame}${number}${field}`);
     } else if (kind === KINDS.lineJunctor) {
       lit(`LL${frame}${value - 1}${number}`);
@@ -29,7 +29,7 @@ class Closed {
       lit(`TL${frame}${value - 1}${number}`);
     } else {
       this.end(this.layout.at(kind, frame, number), this.layout.place(frame, number, value - 1), owner);
-      this.labels.place(this.office, `${frame}${number}${value - 1}`);
+      this.labels.place(this.office, `${frame}${number}${value - 1}`, owner.kinds);
       lit(`TL${frame}${number}${field}`);
     }
     this.dot(this.layout.at(kind, frame, number), kinds, owner.colour);
@@ -54,7 +54,7 @@ class Closed {
         const from = whole.get(calling), to = whole.get(called);
         if (!from || !to) continue;
         const one = this.layout.place(from.t, from.u, from.a), other = this.layout.place(to.t, to.u, to.a);
-        const far = Math.max(one.x, other.x) + 12, bend = one.y === other.y ? 9 : 0;
+        const far = Math.max(one.x, other.x) + this.layout.arc, bend = one.y === other.y ? 9 : 0;
         const d = `M${one.x} ${one.y}C${far} ${one.y - bend} ${far} ${other.y + bend} ${other.x} ${other.y}`;
         this.figures.push(figure('path', { d, class: 'link call' }));
       }

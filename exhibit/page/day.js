@@ -118,9 +118,7 @@ class DayStage extends Stage {
 
 // The numbers that a code leads to: some of this office, or one for all of another.
 function entriesOf(plan, { code, groups }) {
-  const names = groups.map(it => plan.groups[it].name).join(', ');
-  const outside = { digits: `${code}1234`, words: t('directory.outside', { groups: names }) };
-  if (plan.groups[groups[0]].kind !== 'intra') return [outside];
-  const inside = ({ number }) => ({ digits: code + number, words: t('directory.inside', { number }) });
-  return plan.numbers.slice(0, MOST_PHONES).map(inside);
+  if (plan.groups[groups[0]].kind !== 'intra') return [{ digits: `${code}1234`, words: t('directory.outside') }];
+  return plan.numbers.slice(0, MOST_PHONES)
+    .map(({ number }) => ({ digits: code + number, words: t('directory.inside') }));
 }

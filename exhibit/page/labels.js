@@ -1,47 +1,92 @@
-// The labels of lines and trunk places, each once, beside their own frame. Where a frame has more than fit there, the
-// last one says how many more there are.
+// The labels of lines and trunk places, each once, beside their own frame. Where a frame has more of them than fit one
+// below the other, neighbours share a row; where that is not enough either, calls keep their labels rather than
+// registers, those rather than idle lines, and the last row says how many more there are.
+const RANKS = ['call', 'partial', 'register', 'idle'];
+
+// How wide a letter is, as a part of its height.
+const LETTER = 0.58;
+
 class Labels {
   constructor(layout) {
     Object.assign(this, { layout, lines: new Map(), places: new Map() });
   }
 
-  // A line that is in use has a stroke that leads to its place.
-  line(office, line, isUsed = true) {
+  // The label of a line with what uses it, one of RANKS. One that is in use has a stroke that leads to its place.
+  line(office, line, use = 'idle') {
     const { l, s, x } = pathParts(`${line}-0-000`), point = this.layout.line(l, s, x);
-    const isKnown = this.lines.get(line)?.isUsed ?? false;
-    this.lines.set(line, { text: office.lineName(line), frame: l, y: point.y, point, isUsed: isUsed || isKnown });
+    this.keep(this.lines, line, { name: office.lineName(line), frame: l, use }, point);
   }
 
-  // The two places of a trunk for calls inside the office have one label, if they are on one switch.
-  place(office, place) {
-    const [t, u, a] = [...place].map(Number), point = this.layout.place(t, u, a), text = office.placeName(place);
-    this.places.set(`${t}${u} ${text}`, { text, frame: t, y: point.y, point, isUsed: true });
+  // The two places of a trunk for calls inside the office have one label, if they are on one frame.
+  place(office, place, use) {
+    const [t, u, a] = [...place].map(Number), name = office.placeName(place), { x, y } = this.layout.place(t, u, a);
+    const end = office.kindOf(place) === 'intra' && use === 'call' ? x + 0.75 * this.layout.arc : x;
+    this.keep(this.places, `${t} ${name}`, { name, frame: t, use }, { x: end, y });
+  }
+
+  // Of two uses of one label the first one in RANKS counts.
+  keep(labels, key, label, point) {
+    const kept = labels.get(key), points = [...kept?.points ?? [], point], y = mean(points.map(it => it.y));
+    const rank = RANKS.indexOf(label.use), first = kept && kept.rank <= rank ? kept : { ...label, rank };
+    labels.set(key, { ...first, points, y });
   }
 
   figures() {
     const { lineMargin, placeMargin, columns } = this.layout;
     return [
-      ...this.column(this.lines, lineMargin * 0.66, 'end', -4),
-      ...this.column(this.places, columns[3] + placeMargin * 0.3, 'start', 4),
+      ...this.column(this.lines, lineMargin * 0.72, 'end', lineMargin * 0.72, columns[0]),
+      ...this.column(this.places, columns[3] + placeMargin * 0.3, 'start', placeMargin * 0.7, columns[3]),
     ];
   }
 
-  column(labels, x, anchor, away) {
-    return TEN.flatMap(frame => this.ofFrame(frame, [...labels.values()].filter(it => it.frame === frame)))
-      .flatMap(({ text, y, point, isUsed }) => [
-        ...(isUsed ? [figure('path', { d: `M${x - away / 2} ${y}L${point.x} ${point.y}`, class: 'leader' })] : []),
-        figure('text', { x: x + away / 2, y, class: `label ${anchor}` }, text),
+  // The labels that begin or end at `x`, in rows of this width, with strokes to their places and on to their frame.
+  column(labels, x, anchor, width, frameEdge) {
+    const most = Math.floor(width / (this.layout.font * LETTER)), away = anchor === 'end' ? 3 : -3;
+    const toFrame = use => use === 'partial' ? `H${frameEdge}` : '';
+    const leader = (point, y, use) => `M${x + away} ${y}L${point.x} ${point.y}${toFrame(use)}`;
+    return TEN.flatMap(frame => this.rowsOf(frame, [...labels.values()].filter(it => it.frame === frame), most))
+      .flatMap(({ text, y, shown }) => [
+        ...shown.filter(it => it.use !== 'idle').flatMap(({ points, use }) =>
+          points.map(point => figure('path', { d: leader(point, y, use), class: 'leader' }))),
+        figure('text', { x, y, class: `label ${anchor}` }, text),
       ]);
   }
 
-  // As many labels as fit beside a frame, moved apart where they would overlap.
-  ofFrame(frame, labels) {
-    const { font, pitch } = this.layout, step = font + 2, top = this.layout.frameTop(frame) - 2;
-    const most = Math.max(1, Math.floor((pitch + 2) / step));
-    labels.sort((one, other) => one.y - other.y);
-    if (labels.length <= most) return spread(labels, step, top, top + pitch + 2);
-    const shown = labels.slice(0, most - 1), left = labels.length - shown.length;
-    const more = { text: `+${left}`, y: top + pitch, isUsed: false };
-    return spread([...shown, more], step, top, top + pitch + 2);
+  // The rows of labels beside a frame, of so many letters at most, moved apart where they would overlap.
+  rowsOf(frame, labels, letters) {
+    const { font, pitch } = this.layout, step = font + 1, top = this.layout.frameTop(frame) - 1;
+    const most = Math.max(1, Math.floor((pitch - 2) / step));
+    let shown = [...labels].sort((one, other) => one.rank - other.rank), rows = rowsFor(shown, most, letters);
+    for (let left = 1; rows.length > most; left++) {
+      shown = shown.slice(0, -1);
+      rows = rowsFor(shown, most - 1, letters);
+      rows.push({ text: `+${left}`, shown: [], y: rows[rows.length - 1].y });
+    }
+    return spread(rows, step, top, top + pitch - 2);
   }
 }
+
+// Labels in rows by their heights, as few to a row as needed so that there are `most` rows or fewer. There are more
+// where no two neighbours fit into a row.
+function rowsFor(shown, most, letters) {
+  const rows = [...shown].sort((one, other) => one.y - other.y).map(it => labelRow([it]));
+  while (rows.length > most) {
+    const joined = rows.slice(1).map((row, at) => labelRow([...rows[at].shown, ...row.shown]));
+    const least = Math.min(...joined.map(it => it.text.length));
+    if (least > letters) break;
+    const at = joined.findIndex(it => it.text.length === least);
+    rows.splice(at, 2, joined[at]);
+  }
+  return rows;
+}
+
+// Labels in one row, at their middle. Members of one group have its name once.
+function labelRow(shown) {
+  const text = shown.map(({ name }, at) => {
+    const [group, member] = name.split(' ');
+    return at && member && group === shown[at - 1].name.split(' ')[0] ? member : name;
+  }).join(', ');
+  return { text, shown, y: mean(shown.map(it => it.y)) };
+}
+
+const mean = numbers => numbers.reduce((sum, it) => sum + it, 0) / numbers.length;

@@ -5,9 +5,9 @@ class Layout {
     this.width = width;
     this.height = height;
     this.narrow = width < 620;
-    this.font = this.narrow ? 11 : width > 1000 ? 15 : 12;
-    this.lineMargin = this.narrow ? 44 : 96;
-    this.placeMargin = this.narrow ? 72 : 140;
+    this.font = this.narrow ? 11 : width > 1000 ? 20 : height > 700 ? 17 : 13;
+    this.lineMargin = this.font * (this.narrow ? 5.2 : 8.6);
+    this.placeMargin = this.font * (this.narrow ? 7.6 : 10.8);
     const inner = width - this.lineMargin - this.placeMargin;
     this.frameWidth = Math.round(inner * (this.narrow ? 0.28 : 0.25));
     this.columns = [
@@ -16,24 +16,29 @@ class Layout {
       width - this.placeMargin - this.frameWidth,
       width - this.placeMargin,
     ];
-    this.top = this.narrow ? 18 : 26;
+    this.top = Math.round(this.font * 1.7);
     this.pitch = (height - this.top - 4) / 10;
     this.frameHeight = this.pitch - Math.max(4, this.pitch * 0.12);
     this.row = (this.frameHeight - 8) / 10;
+    this.arc = this.placeMargin * 0.1;
+    this.stroke = Math.max(1.5, Math.min(2.6, this.row * 0.42));
   }
 
   frameTop(frame) { return this.top + this.pitch * frame; }
+
+  // The height of what stands before a frame's paths, most of which run in its upper half.
+  front(frame) { return this.frameTop(frame) + this.frameHeight * 0.66; }
 
   // The middle of the row of a switch in its frame.
   y(frame, number) { return this.frameTop(frame) + 4 + this.row * (number + 0.5); }
 
   // The point of a line, by its place on its switch, and of a trunk place, by its appearance.
   line(frame, number, place) {
-    return { x: this.columns[0] - 8 - (29 - place) / 29 * this.lineMargin * 0.2, y: this.y(frame, number) };
+    return { x: this.lineMargin * (0.82 + place / 29 * 0.12), y: this.y(frame, number) };
   }
 
   place(frame, number, appearance) {
-    return { x: this.columns[3] + 8 + appearance / 9 * this.placeMargin * 0.14, y: this.y(frame, number) };
+    return { x: this.columns[3] + this.placeMargin * (0.05 + appearance / 9 * 0.12), y: this.y(frame, number) };
   }
 
   // The point of a switch, by its kind.
@@ -54,6 +59,21 @@ class Layout {
 function curve(from, to) {
   const middle = (from.x + to.x) / 2;
   return `M${from.x} ${from.y}C${middle} ${from.y} ${middle} ${to.y} ${to.x} ${to.y}`;
+}
+
+// A link in the picture, a junctor as a curve, with its name as its title unless it has another.
+function linkFigure(layout, link, kinds, { title = link, colour } = {}) {
+  const { kind, digits } = linkParts(link), [from, to] = layout.link(kind, digits);
+  const d = kind === 'JU' ? curve(from, to) : `M${from.x} ${from.y}L${to.x} ${to.y}`;
+  const style = colour ? `stroke:${colour}` : null;
+  return figure('path', { d, class: `link ${kinds}`, style }, figure('title', {}, title));
+}
+
+// The point of a curve, or of a straight line, at this part of its way: 0 at its beginning, 1 at its end.
+function pointAt(kind, [from, to], part) {
+  const fall = kind === 'JU' ? part * part * (3 - 2 * part) : part;
+  const across = kind === 'JU' ? 1.5 * part * (1 - part) + part ** 3 : part;
+  return { x: from.x + (to.x - from.x) * across, y: from.y + (to.y - from.y) * fall };
 }
 
 // Moves labels apart that would overlap: each has its wanted `y`, and none leaves the range.

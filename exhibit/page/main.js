@@ -155,8 +155,9 @@ class Page {
   }
 
   showLegend() {
-    const entry = kind => [element('i', { class: kind }), t(`legend.${kind}`)];
-    $('legend').replaceChildren(...['register', 'call', 'fault', 'holder', 'asker'].flatMap(entry));
+    const entry = kind => element('li', {}, element('i', { class: kind }), t(`legend.${kind}`));
+    const kinds = ['register', 'call', 'fault', 'tried', 'switch', 'next', 'holder', 'asker'];
+    $('legend').replaceChildren(...kinds.map(entry));
   }
 
   showAbout() {

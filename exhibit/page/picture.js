@@ -1,5 +1,5 @@
-// So many links out of order have their names in the picture.
-const MOST_NAMED = 6;
+// How far apart discs stand, in their radii.
+const DISC = 2.1;
 
 // The picture of an office: its frames, what is closed in them, and who holds what.
 class Picture {
@@ -29,90 +29,74 @@ class Picture {
     this.key = key;
     this.layout = new Layout(width, height);
     const still = new Still(this.layout);
-    const fault = link => this.link(linkParts(link), 'fault', t('picture.faulty', { link }));
+    const fault = link => linkFigure(this.layout, link, 'fault', { title: t('picture.faulty', { link }) });
     const faults = this.office.plan.faults.map(fault);
     this.use = figure('g', { class: 'use' });
-    const size = { width, height, viewBox: `0 0 ${width} ${height}`, style: `font-size:${this.layout.font}px` };
+    this.plates = still.plates;
+    const style = `font-size:${this.layout.font}px;--stroke:${this.layout.stroke}px`;
+    const size = { width, height, viewBox: `0 0 ${width} ${height}`, style };
     const all = [...still.figures, ...faults, this.use];
     this.place.replaceChildren(figure('svg', { ...size, 'aria-hidden': 'true' }, ...all));
-  }
-
-  link({ kind, digits }, kinds, title, colour) {
-    const [from, to] = this.layout.link(kind, digits);
-    const style = colour ? `stroke:${colour}` : null;
-    return figure('path', { d: curve(from, to), class: `link ${kinds}`, style }, figure('title', {}, title));
   }
 
   drawUse() {
     const labels = new Labels(this.layout);
     const shown = new Closed(this.office, this.layout, labels);
-    for (const line of this.lines) labels.line(this.office, line, false);
+    for (const line of this.lines) labels.line(this.office, line);
     const { markers } = this.office, working = markers.length > MANY_MARKERS ? [] : markers.filter(it => it.job);
-    for (const { job } of working) labels.line(this.office, job.line);
-    const links = shown.links.map(it => this.link(linkParts(it.link), it.kinds, it.link, it.colour));
-    const alarms = this.shared.flatMap(it => this.alarm(it.link));
-    const { faults } = this.office.plan, named = faults.length <= MOST_NAMED ? faults : [];
+    const trial = trialOf(this.office), lines = working.map(it => it.job.line);
+    for (const line of trial ? [...lines, trial.line] : lines) labels.line(this.office, line, 'partial');
+    const links = shown.links.map(it => linkFigure(this.layout, it.link, it.kinds, it));
+    const { figures, names } = new Trouble(this.office, this.shared, this.layout);
     this.use.replaceChildren(
-      ...this.edges(), ...links, ...shown.figures, ...alarms, ...named.map(link => this.name(link, 'fault', link)),
-      ...this.steps(), ...this.badges(), ...labels.figures());
+      ...this.edges(), ...links, ...figures, ...this.plates, ...shown.figures, ...this.steps(), ...this.badges(),
+      ...names, ...labels.figures());
   }
 
-  // The connectors of frames that are held or requested, each with the place of its frame.
+  // The connectors of frames that are held or requested, each with its frame's place.
   get frames() {
     const { layout } = this;
     return this.office.connectors.filter(it => it.connector.kind !== 'group').map(it => {
       const { kind, number } = it.connector, column = kind === 'line link frame' ? 0 : 2;
-      return { ...it, x: layout.columns[column], y: layout.frameTop(number) };
+      return { ...it, number, x: layout.columns[column], y: layout.frameTop(number) };
     });
   }
 
-  // Their edges, in the holder's colour.
+  // An edge around each that is held, in the holder's colour.
   edges() {
     const { frameWidth: width, frameHeight: height } = this.layout;
-    return this.frames.map(({ x, y, holder }) => {
-      const style = holder === null ? null : `stroke:${markerColour(holder)}`;
-      return figure('rect', { x, y, width, height, rx: 3, class: holder === null ? 'wanted' : 'held', style });
-    });
+    return this.frames.filter(({ holder }) => holder !== null).map(({ x, y, holder }) =>
+      figure('rect', { x, y, width, height, rx: 3, class: 'held', style: `stroke:${markerColour(holder)}` }));
   }
 
   // A disc for the holder of each, and one for each marker that requests it, as many as there is room for.
   badges() {
-    const { frameWidth: width, frameHeight: height, narrow } = this.layout;
-    const size = Math.min(narrow ? 8 : 11, height * 0.28);
-    const room = Math.max(1, Math.floor((width * 0.66) / (size * 2.3)));
-    return this.frames.flatMap(({ x, y, holder, requests }) => {
+    const { frameWidth, frameHeight, narrow } = this.layout, room = frameWidth * 0.66, least = narrow ? 9.5 : 11;
+    const most = Math.max(1, Math.floor(room / (least * DISC)));
+    return this.frames.flatMap(({ x, number, holder, requests }) => {
       const holders = holder === null ? [] : [[holder, 'holder']];
-      const all = [...holders, ...requests.map(it => [it, 'asker'])].slice(0, room);
-      const at = place => x + width * 0.62 + (place - (all.length - 1) / 2) * size * 2.3;
-      return all.map(([marker, kind], place) => this.badge(marker, at(place), y + height / 2, size, kind));
+      const all = [...holders, ...requests.map(it => [it, 'asker'])].slice(0, most);
+      const size = Math.max(least, Math.min(frameHeight * 0.27, room / all.length / DISC));
+      const at = place => x + frameWidth * 0.64 + (place - (all.length - 1) / 2) * size * DISC;
+      return all.map(([marker, kind], place) => this.badge(marker, at(place), this.layout.front(number), size, kind));
     });
   }
 
-  // A link that carries two calls.
-  alarm(link) {
-    return [this.link(linkParts(link), 'alarm', link), this.name(link, 'alarm', `${link} ×2`)];
-  }
-
-  // The name of a link, above its middle.
-  name(link, kinds, text) {
-    const { kind, digits } = linkParts(link), [from, to] = this.layout.link(kind, digits);
-    return figure('text', { x: (from.x + to.x) / 2, y: (from.y + to.y) / 2 - 7, class: `name ${kinds}` }, text);
-  }
-
   badge(marker, x, y, size, kind) {
-    const colour = markerColour(marker);
-    const style = kind === 'holder' ? `fill:${colour};stroke:${colour}` : `stroke:${colour}`;
+    const colour = markerColour(marker), isFull = kind === 'holder', letters = `font-size:${Math.max(11, size)}px`;
     return figure('g', { class: `badge ${kind}` },
-      figure('circle', { cx: x, cy: y, r: size, style }),
-      figure('text', { x, y, style: kind === 'holder' ? null : `fill:${colour}` }, marker));
+      figure('circle', { cx: x, cy: y, r: size, style: `${isFull ? `fill:${colour};` : ''}stroke:${colour}` }),
+      figure('text', { x, y, style: isFull ? letters : `${letters};fill:${colour}` }, marker));
   }
 
-  // A ring where the next step of each marker tests, closes or opens.
+  // A square around the switch that the next step of each marker tests, closes or opens.
   steps() {
-    const r = Math.max(4, this.layout.row * 0.8);
-    return this.office.markers.filter(it => it.next?.object?.frame !== undefined).map(({ marker, next }) => {
+    const half = Math.max(5.5, this.layout.row * 0.9);
+    return this.office.markers.filter(it => it.next?.object?.frame !== undefined).flatMap(({ marker, next }) => {
       const { x, y } = this.layout.at(next.object.kind, next.object.frame, next.object.number);
-      return figure('circle', { cx: x, cy: y, r, class: 'next', style: `stroke:${markerColour(marker)}` });
+      const colour = markerColour(marker), square = { x: x - half, y: y - half, width: 2 * half, height: 2 * half };
+      return [figure('rect', { ...square, class: 'next', style: `stroke:${colour}` }),
+        figure('circle', { cx: x, cy: y, r: half * 0.45, style: `fill:${colour}` })];
     });
   }
 

@@ -92,7 +92,7 @@ class Session {
   }
 
   async lookAt(plan, kinds, rows) {
-    const { status, text } = await this.engine.answer(TASK.lookJson, plan, kinds, rowsText(rows, true));
+    const { status, text } = await this.engine.answer(...lookCall(plan, kinds, rows));
     if (status !== 0) return { fault: { status, line: text.trim() } };
     return { office: new Office(JSON.parse(text), rows.length > 0) };
   }
@@ -102,6 +102,15 @@ class Session {
     this.changed();
     this.timings.push(performance.now() - began);
     if (this.timings.length > 1000) this.timings.shift();
+    this.prepare();
+  }
+
+  // Where the engine works ahead, names the next step of each of a few markers to it.
+  prepare() {
+    const working = this.office.markers.filter(it => it.job);
+    if (!this.engine.prepare || working.length > MANY_MARKERS) return;
+    const call = it => lookCall(this.plan, this.kinds, [...this.rows, steps(it.marker, 1)]);
+    this.engine.prepare(working.map(call));
   }
 
   text() { return rowsText(this.rows); }
@@ -120,6 +129,9 @@ class Session {
 
   async judge(records) { return (await this.engine.answer(TASK.audit, this.plan, this.kinds, records)).text; }
 }
+
+// The call of the engine for what stands after these rows, with the events of the last one.
+const lookCall = (plan, kinds, rows) => [TASK.lookJson, plan, kinds, rowsText(rows, true)];
 
 // Records, and their trouble cards, as the program writes them.
 const recordsText = records => records.map(recordText).join('') + cardsText(records);

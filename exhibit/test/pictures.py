@@ -1,11 +1,13 @@
 """Screenshots of what a visitor sees at the page's best moments, at three sizes; for --pictures alone."""
 
-import os
+import os, time
 
 import plans
 from page import marker, phone
 from scenario import scenario
 from texts import SIZES
+
+ANIMATED = 0.8  # seconds until what has just closed or dropped stands still
 
 
 def take(test, name, shown="body"):
@@ -16,6 +18,7 @@ def take(test, name, shown="body"):
         test.page.idle()
         test.browser.run("document.querySelector(values[0]).scrollIntoView({behavior: 'instant'})", shown)
         test.page.idle()
+        time.sleep(ANIMATED)
         test.browser.screenshot(os.path.join(test.options.pictures, f"{name}-{width}x{height}.png"))
     test.browser.size(1280, 720)
 

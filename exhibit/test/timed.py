@@ -1,20 +1,21 @@
 """How long a visitor waits for a step, by the page's own figures."""
 
-import statistics
+import statistics, time
 
 import plans
 from scenario import scenario
 
 SAMPLES, STEPS_OF_A_DIAL = 40, 28
-IN_THE_PAGE, FULL_PLAN = 16, 50
-# After a click Chromium draws the screen before it hands over what a server answered, which takes up to a frame more.
-SERVED = 34
+EXAMPLE_PLAN, FULL_PLAN = 16, 50
+# Seconds between two clicks, as many as a quick hand needs.
+PAUSE = 0.15
 
 
 def time_steps(test, what, limit, most=SAMPLES):
     """Makes steps of whichever marker has a job, and compares the times with the limit."""
     page, taken = test.page, []
     while len(taken) < most and page.enabled("#one"):
+        time.sleep(PAUSE)
         page.press("#one")
         taken.append(test.browser.run("return exhibit.timings()")[-1])
     if not test.check(taken, f"{what}: there was no step to make"):
@@ -24,12 +25,12 @@ def time_steps(test, what, limit, most=SAMPLES):
     test.check(middle <= limit, f"{what}: a step takes {middle:.1f} ms, more than {limit}")
 
 
-@scenario("k1", "a step is answered and drawn within 16 ms with the example plan, through the server within 34")
+@scenario("k1", "a step is answered and drawn within 16 ms with the example plan")
 def times_of_the_example(test):
     test.page.automatic(False)
     for number in ("0001", "0003"):
         test.page.lift(number)
-    time_steps(test, "the example plan", SERVED if test.options.serve else IN_THE_PAGE)
+    time_steps(test, "the example plan", EXAMPLE_PLAN)
 
 
 @scenario("k2", "a step is answered and drawn within 50 ms with a full plan and 100 jobs behind it")
