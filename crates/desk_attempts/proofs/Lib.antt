@@ -4,3 +4,4 @@ pub mod Confirmed
 mod Confirming
 pub mod SnapshotWalks
 mod WordSteps
+mod FirstFieldFits

@@ -1,10 +1,11 @@
-use Rattle.std.proofs.Common.{ℕ, ap, refl, arith, ◌∙◌}
+use Rattle.std.proofs.Common.{ℕ, ap, refl, ◌∙◌}
 use Rattle.turns.specs.declared.phase.Phase.{Phase}
 use Rattle.attempts.specs.Answers.{answer_in}
 use Rattle.turns.specs.Attempt.{act, answer_to, change}
 use Rattle.desk_attempts.specs.Speculation.{now_of}
 use Rattle.attempts.specs.SystemWith.{system_with}
 use Rattle.desk_attempts.proofs.SpeculationNow.{seen_waiting, told_far}
+use Rattle.desk_attempts.proofs.FirstFieldFits.{first_field_fits}
 use Rattle.desk_attempts.proofs.now.apply_found.Goals as goal
 
 pub returns-in-Some-clause-next : goal.returns-in-Some-clause-next
@@ -20,4 +21,4 @@ pub returns-in-None-clause-answer : goal.returns-in-None-clause-answer
 returns-in-None-clause-answer g c = c.answer_in_phase-answer.ensures ∙ ap (λ (phase : Phase _ ℕ). answer_in phase c.args.actor c.args.found) c.phase.ensures ∙ told_far g.S.Lock.PartialEq.eq g.S.Scripts.reply_of g.S.Scripts.effects_of (g.S.Scripts.system c.args.setting.now) c.args.actor c.args.found _ _ c.program.inside.validated c.args.program.now refl c.program.view_is c.in-None.ensures
 
 pub phase-requires : goal.phase-requires
-phase-requires g c = grind arith steps 60000000
+phase-requires g c = search (first_field_fits)

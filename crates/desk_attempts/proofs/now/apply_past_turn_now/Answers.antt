@@ -1,5 +1,5 @@
-use Rattle.std.proofs.Common.{arith}
+use Rattle.desk_attempts.proofs.FirstFieldFits.{first_field_fits}
 use Rattle.desk_attempts.proofs.now.apply_past_turn_now.Goals as goal
 
 pub apply_past_turn-requires : goal.apply_past_turn-requires
-apply_past_turn-requires g c = grind arith steps 60000000
+apply_past_turn-requires g c = search (first_field_fits)

@@ -1,6 +1,7 @@
-use Rattle.std.proofs.Common.{arith, ◌∙◌}
+use Rattle.std.proofs.Common.{◌∙◌}
 use Rattle.turns.specs.Attempt.{asked_in}
 use Rattle.desk_attempts.proofs.SpeculationNow.{seen_far, seen_waiting}
+use Rattle.desk_attempts.proofs.FirstFieldFits.{first_field_fits}
 use Rattle.desk_attempts.proofs.now.asked.Goals as goal
 
 pub returns-in-Some : goal.returns-in-Some
@@ -13,4 +14,4 @@ pub prediction-requires : goal.prediction-requires
 prediction-requires g c = search
 
 pub lock_to_acquire-requires : goal.lock_to_acquire-requires
-lock_to_acquire-requires g c = grind arith steps 60000000
+lock_to_acquire-requires g c = search (first_field_fits)

@@ -1,6 +1,7 @@
-use Rattle.std.proofs.Common.{arith, ◌∙◌}
+use Rattle.std.proofs.Common.{◌∙◌}
 use Rattle.turns.specs.Outcomes.{is_giving_back}
 use Rattle.desk_attempts.proofs.SpeculationNow.{seen_far, seen_waiting}
+use Rattle.desk_attempts.proofs.FirstFieldFits.{first_field_fits}
 use Rattle.desk_attempts.proofs.now.gives_back.Goals as goal
 
 pub returns-in-Some : goal.returns-in-Some
@@ -13,4 +14,4 @@ pub prediction-requires : goal.prediction-requires
 prediction-requires g c = search
 
 pub is_giving_back-requires : goal.is_giving_back-requires
-is_giving_back-requires g c = grind arith steps 60000000
+is_giving_back-requires g c = search (first_field_fits)

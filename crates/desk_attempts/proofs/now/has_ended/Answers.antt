@@ -1,7 +1,8 @@
-use Rattle.std.proofs.Common.{arith, ◌∙◌}
+use Rattle.std.proofs.Common.{◌∙◌}
 use Rattle.turns.specs.Attempt.{act}
 use Rattle.turns.specs.Runs.{is_finished}
 use Rattle.desk_attempts.proofs.SpeculationNow.{seen_far, seen_waiting}
+use Rattle.desk_attempts.proofs.FirstFieldFits.{first_field_fits}
 use Rattle.desk_attempts.proofs.now.has_ended.Goals as goal
 
 pub returns-in-Some : goal.returns-in-Some
@@ -14,4 +15,4 @@ pub prediction-requires : goal.prediction-requires
 prediction-requires g c = search
 
 pub is_done-requires : goal.is_done-requires
-is_done-requires g c = grind arith steps 60000000
+is_done-requires g c = search (first_field_fits)

@@ -1,8 +1,9 @@
-use Rattle.std.proofs.Common.{arith, ◌≡◌, subst}
+use Rattle.std.proofs.Common.{◌≡◌, subst}
 use Rattle.std.specs.Prelude.{IfNone, IfSome}
 use Rattle.turns.specs.Attempt.{act}
 use Rattle.turns.specs.Outcomes.{IsPastTurn}
 use Rattle.desk_attempts.proofs.SpeculationNow.{seen_far, seen_waiting}
+use Rattle.desk_attempts.proofs.FirstFieldFits.{first_field_fits}
 use Rattle.desk_attempts.proofs.now.next_past_turn_now.Goals as goal
 
 pub returns-in-None-clause-next : goal.returns-in-None-clause-next
@@ -21,4 +22,4 @@ pub prediction-requires : goal.prediction-requires
 prediction-requires g c = search
 
 pub next_past_turn-requires : goal.next_past_turn-requires
-next_past_turn-requires g c = grind arith steps 60000000
+next_past_turn-requires g c = search (first_field_fits)

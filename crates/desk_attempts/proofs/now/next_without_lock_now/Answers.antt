@@ -1,7 +1,8 @@
-use Rattle.std.proofs.Common.{arith, ◌≡◌, refl, subst}
+use Rattle.std.proofs.Common.{◌≡◌, refl, subst}
 use Rattle.std.specs.Prelude.{IfSome, None}
 use Rattle.turns.specs.Attempt.{act, asked_in}
 use Rattle.desk_attempts.proofs.SpeculationNow.{seen_far, seen_waiting}
+use Rattle.desk_attempts.proofs.FirstFieldFits.{first_field_fits}
 use Rattle.desk_attempts.proofs.now.next_without_lock_now.Goals as goal
 
 pub returns-in-Some-clause-next : goal.returns-in-Some-clause-next
@@ -20,4 +21,4 @@ pub prediction-requires : goal.prediction-requires
 prediction-requires g c = search
 
 pub next_without_lock-requires : goal.next_without_lock-requires
-next_without_lock-requires g c = grind arith steps 60000000
+next_without_lock-requires g c = search (first_field_fits)

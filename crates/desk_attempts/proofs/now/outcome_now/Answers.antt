@@ -1,6 +1,7 @@
-use Rattle.std.proofs.Common.{arith, ◌∙◌}
+use Rattle.std.proofs.Common.{◌∙◌}
 use Rattle.turns.specs.Outcomes.{outcome_of}
 use Rattle.desk_attempts.proofs.SpeculationNow.{seen_far, seen_waiting}
+use Rattle.desk_attempts.proofs.FirstFieldFits.{first_field_fits}
 use Rattle.desk_attempts.proofs.now.outcome_now.Goals as goal
 
 pub returns-in-Some : goal.returns-in-Some
@@ -13,4 +14,4 @@ pub prediction-requires : goal.prediction-requires
 prediction-requires g c = search
 
 pub outcome-requires : goal.outcome-requires
-outcome-requires g c = grind arith steps 60000000
+outcome-requires g c = search (first_field_fits)

@@ -1,6 +1,7 @@
-use Rattle.std.proofs.Common.{arith, ◌∙◌}
+use Rattle.std.proofs.Common.{◌∙◌}
 use Rattle.turns.specs.Attempt.{turn_in}
 use Rattle.desk_attempts.proofs.SpeculationNow.{seen_far, seen_waiting}
+use Rattle.desk_attempts.proofs.FirstFieldFits.{first_field_fits}
 use Rattle.desk_attempts.proofs.now.turn.Goals as goal
 
 pub returns-in-Some : goal.returns-in-Some
@@ -13,4 +14,4 @@ pub prediction-requires : goal.prediction-requires
 prediction-requires g c = search
 
 pub turn-requires : goal.turn-requires
-turn-requires g c = grind arith steps 60000000
+turn-requires g c = search (first_field_fits)
