@@ -5,6 +5,7 @@ const RANKS = ['call', 'partial', 'register', 'idle'];
 
 // How wide a letter is, as a part of its height.
 const LETTER = 0.58;
+const MOST_IN_A_ROW = 3;
 
 class Labels {
   constructor(layout) {
@@ -56,14 +57,19 @@ class Labels {
   rowsOf(frame, labels, letters) {
     const { font, pitch } = this.layout, step = font + 1, top = this.layout.frameTop(frame) - 1;
     const most = Math.max(1, Math.floor((pitch - 2) / step));
-    let shown = [...labels].sort((one, other) => one.rank - other.rank), rows = rowsFor(shown, most, letters);
-    for (let left = 1; rows.length > most; left++) {
-      shown = shown.slice(0, -1);
-      rows = rowsFor(shown, most - 1, letters);
-      rows.push({ text: `+${left}`, shown: [], y: rows[rows.length - 1].y });
-    }
-    return spread(rows, step, top, top + pitch - 2);
+    const byRank = [...labels].sort((one, other) => one.rank - other.rank);
+    return spread(fittingRows(byRank, most, letters), step, top, top + pitch - 2);
   }
+}
+
+// Labels in `most` rows or fewer. Where not all fit, the last row says how many are left out.
+function fittingRows(byRank, most, letters) {
+  const room = MOST_IN_A_ROW * most, all = byRank.length <= room ? rowsFor(byRank, most, letters) : null;
+  if (all && all.length <= most) return all;
+  let count = Math.min(byRank.length, room), rows;
+  do rows = rowsFor(byRank.slice(0, --count), most - 1, letters); while (rows.length >= most);
+  const y = rows.length ? rows[rows.length - 1].y : byRank[0].y;
+  return [...rows, { text: `+${byRank.length - count}`, shown: [], y }];
 }
 
 // Labels in rows by their heights, as few to a row as needed so that there are `most` rows or fewer. There are more

@@ -8,7 +8,7 @@ from scenario import scenario
 
 HERE = os.path.dirname(os.path.realpath(__file__))
 MODES = ("day", "break", "rush", "film")
-SIZES = ((1920, 1080), (1280, 720), (390, 844))
+SIZES, LOW = ((1920, 1080), (1280, 720), (390, 844)), (1280, 560)
 LEAST_SIZE, LARGE, NO_CONTRAST = 11, 24, 1.05
 
 
@@ -169,13 +169,25 @@ def check_texts(test, where):
         test.check(not found, f"{where}: {len(found)} {fault}: {'; '.join(sorted(found)[:4])}")
 
 
-@scenario("j4", "a trouble card and a full plan are readable too")
+@scenario("j4", "trouble cards and forty paths are readable too, and in a low window")
 def readable_cards(test):
     test.page.drop(test.file("faults.toml", plans.plan_with_faults()))
     test.page.lift("0001")
     test.page.finish()
     test.check(test.page.count("#cards .card") == 2, f"{test.page.count('#cards .card')} trouble cards are shown")
-    for width, height in SIZES:
+    check_sizes(test, "trouble cards")
+    test.page.drop(test.file("full.toml", plans.full_plan()))
+    test.page.drop(test.file("dials.csv", plans.dials(40)))
+    test.page.automatic(False)
+    test.page.skip(100)
+    paths = test.browser.run("return exhibit.page.stage.session.office.paths.length")
+    test.check(paths == 40, f"{paths} paths are up, not 40")
+    check_sizes(test, "forty paths")
+
+
+def check_sizes(test, what):
+    for width, height in (*SIZES, LOW):
         test.browser.size(width, height)
         test.page.idle()
-        check_texts(test, f"trouble cards at {width}x{height}")
+        check_texts(test, f"{what} at {width}x{height}")
+    test.browser.size(1280, 720)
