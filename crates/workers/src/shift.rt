@@ -1,6 +1,6 @@
 //! A desk at work, with a log of its records.
 
-ghost use Rattle.std.specs.Prelude.{◌≡◌, ◌<◌, ◌+◌, ℕ, [], IfSome, MatchOption, Some, false, true, vec_capacity, vec_len};
+ghost use Rattle.std.specs.Prelude.{◌≡◌, ◌<◌, ◌+◌, ℕ, [], IfNone, IfSome, MatchOption, Some, false, true, vec_capacity, vec_len};
 ghost use Rattle.desks.specs.Met.{AreIdle, IsIdleDesk};
 ghost use Rattle.desks.specs.Parts.{Begins};
 ghost use Rattle.desks.specs.Reports.{job_of};
@@ -102,12 +102,14 @@ impl<F: Jobs> Shift<F> {
     }
 }
 
-/// Takes the last desk out of those that a room opened with, at the index of its number.
+/// Takes the last desk out of those that a room opened with, at the index of its number. None if
+/// there are none.
 pub fn last_desk<F: Jobs>(_room: &Room<F>, desks: &mut Vec<Desk<F>>) -> Option<Desk<F>>
     requires { AreNewDesks _room.now desks.old.items }
     ensures rest { AreNewDesks _room.now desks.new.items }
     ensures desk { IfSome result (λ desk. desk ≡ new_desk _room.now (vec_len desks.new)) }
     ensures len { IfSome result (λ desk. vec_len desks.old ≡ vec_len desks.new + 1) }
+    ensures none { IfNone result (vec_len desks.old ≡ 0) }
 {
     desks.pop()
 }
