@@ -1,4 +1,7 @@
-// The groups of trunks and registers: a lamp for each member, and who holds the group's connector.
+// The groups of trunks and registers: a lamp for each member, small ones where there are many, and who holds the
+// group's connector.
+const MANY_MEMBERS = 25;
+
 function showGroups(place, office) {
   const groups = office.plan.groups.map((group, number) => ({ ...group, number }));
   keepList(place, groups, group => `${group.number} ${group.name} ${group.members.length}`, makeGroup, (it, group) => {
@@ -17,7 +20,8 @@ function showGroups(place, office) {
 function makeGroup(group) {
   const title = (places, member) => `${group.name} ${member}: ${places.join(', ')}`;
   const lamps = group.members.map((...it) => element('span', { class: 'lamp', title: title(...it) }));
-  return element('div', { class: 'group', role: 'group' },
+  const kinds = group.members.length > MANY_MEMBERS ? 'group large' : 'group';
+  return element('div', { class: kinds, role: 'group' },
     element('strong', {}, group.name), element('small', { 'data-t': `group.${group.kind}` }, t(`group.${group.kind}`)),
     element('span', { class: 'lamps' }, ...lamps), element('span', { class: 'who', 'aria-hidden': 'true' }));
 }

@@ -46,19 +46,19 @@ class Labels {
     const toFrame = use => use === 'partial' ? `H${frameEdge}` : '';
     const leader = (point, y, use) => `M${x + away} ${y}L${point.x} ${point.y}${toFrame(use)}`;
     return TEN.flatMap(frame => this.rowsOf(frame, [...labels.values()].filter(it => it.frame === frame), most))
-      .flatMap(({ text, y, shown }) => [
+      .flatMap(({ text, y, shown, use }) => [
         ...shown.filter(it => it.use !== 'idle').flatMap(({ points, use }) =>
           points.map(point => figure('path', { d: leader(point, y, use), class: 'leader' }))),
-        figure('text', { x, y, class: `label ${anchor}` }, text),
+        figure('text', { x, y, class: `label ${anchor} ${use}` }, text),
       ]);
   }
 
   // The rows of labels beside a frame, of so many letters at most, moved apart where they would overlap.
   rowsOf(frame, labels, letters) {
-    const { font, pitch } = this.layout, step = font + 1, top = this.layout.frameTop(frame) - 1;
-    const most = Math.max(1, Math.floor((pitch - 2) / step));
+    const { font, pitch } = this.layout, step = font + 0.5, top = this.layout.frameTop(frame) - 1;
+    const most = Math.max(1, Math.floor((pitch - 1) / step));
     const byRank = [...labels].sort((one, other) => one.rank - other.rank);
-    return spread(fittingRows(byRank, most, letters), step, top, top + pitch - 2);
+    return spread(fittingRows(byRank, most, letters), step, top, top + pitch - 1);
   }
 }
 
@@ -69,7 +69,7 @@ function fittingRows(byRank, most, letters) {
   let count = Math.min(byRank.length, room), rows;
   do rows = rowsFor(byRank.slice(0, --count), most - 1, letters); while (rows.length >= most);
   const y = rows.length ? rows[rows.length - 1].y : byRank[0].y;
-  return [...rows, { text: `+${byRank.length - count}`, shown: [], y }];
+  return [...rows, { text: `+${byRank.length - count}`, shown: [], use: 'rest', y }];
 }
 
 // Labels in rows by their heights, as few to a row as needed so that there are `most` rows or fewer. There are more
@@ -92,7 +92,7 @@ function labelRow(shown) {
     const [group, member] = name.split(' ');
     return at && member && group === shown[at - 1].name.split(' ')[0] ? member : name;
   }).join(', ');
-  return { text, shown, y: mean(shown.map(it => it.y)) };
+  return { text, shown, use: shown.every(it => it.use === 'idle') ? 'idle' : 'busy', y: mean(shown.map(it => it.y)) };
 }
 
 const mean = numbers => numbers.reduce((sum, it) => sum + it, 0) / numbers.length;

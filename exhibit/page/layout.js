@@ -5,11 +5,11 @@ class Layout {
     this.width = width;
     this.height = height;
     this.narrow = width < 620;
-    this.font = this.narrow ? 11 : width > 1000 ? 20 : height > 700 ? 17 : 13;
+    this.font = this.narrow ? 12 : width > 1000 ? 20 : height > 700 ? 17 : 13;
     this.lineMargin = this.font * (this.narrow ? 5.2 : 8.6);
-    this.placeMargin = this.font * (this.narrow ? 7.6 : 10.8);
+    this.placeMargin = this.font * (this.narrow ? 7.2 : 10.8);
     const inner = width - this.lineMargin - this.placeMargin;
-    this.frameWidth = Math.round(inner * (this.narrow ? 0.28 : 0.25));
+    this.frameWidth = Math.round(inner * (this.narrow ? 0.3 : 0.25));
     this.columns = [
       this.lineMargin,
       this.lineMargin + this.frameWidth,
@@ -18,19 +18,18 @@ class Layout {
     ];
     this.top = Math.round(this.font * 1.7);
     this.pitch = (height - this.top - 4) / 10;
-    this.frameHeight = this.pitch - Math.max(4, this.pitch * 0.12);
-    this.row = (this.frameHeight - 8) / 10;
+    this.frameHeight = this.pitch - Math.max(3, this.pitch * 0.07);
+    // Above the switches of each frame, for its number and the markers that hold or request it.
+    this.bar = Math.min(28, Math.max(18, this.frameHeight * 0.37));
+    this.row = (this.frameHeight - this.bar - 4) / 10;
     this.arc = this.placeMargin * 0.1;
     this.stroke = Math.max(1.5, Math.min(2.6, this.row * 0.42));
   }
 
   frameTop(frame) { return this.top + this.pitch * frame; }
 
-  // The height of what stands before a frame's paths, most of which run in its upper half.
-  front(frame) { return this.frameTop(frame) + this.frameHeight * 0.66; }
-
   // The middle of the row of a switch in its frame.
-  y(frame, number) { return this.frameTop(frame) + 4 + this.row * (number + 0.5); }
+  y(frame, number) { return this.frameTop(frame) + this.bar + 2 + this.row * (number + 0.5); }
 
   // The point of a line, by its place on its switch, and of a trunk place, by its appearance.
   line(frame, number, place) {
@@ -92,5 +91,9 @@ function spread(labels, height, top, bottom) {
   return labels;
 }
 
-// The colour of a marker: neighbouring numbers are far apart on the circle of colours.
-const markerColour = number => `oklch(0.82 0.14 ${(85 + number * 137.508) % 360})`;
+// The colour of a marker. Neighbouring numbers are far apart on the circle of colours, without those of paths and of
+// links out of order: the hues are from 75 to 185, and from 235 to 365.
+function markerColour(number) {
+  const hue = (10 + number * 148.328) % 240;
+  return `oklch(0.82 0.14 ${(hue < 110 ? 75 : 125) + hue})`;
+}

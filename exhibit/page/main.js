@@ -61,7 +61,8 @@ class Page {
     stage.show();
     this.picture.show(office, stage.lines);
     if (stage.naive) this.naive.show(new Office(stage.naive.look, true), stage.lines, stage.naive.shared);
-    setText($('real-title'), t('real.title', { turns: office.records.length, paths: office.paths.length }));
+    setText($('real-title'), titleWords(office));
+    showLegend($('legend'), office, Boolean(stage.naive));
     showGroups($('groups'), office);
     showMarkers($('markers'), stage);
     showTurns($('turns'), office);
@@ -151,13 +152,6 @@ class Page {
     document.title = t('title');
     for (const verdict of document.querySelectorAll('output')) verdict.replaceChildren();
     showTexts();
-    this.showLegend();
-  }
-
-  showLegend() {
-    const entry = kind => element('li', {}, element('i', { class: kind }), t(`legend.${kind}`));
-    const kinds = ['register', 'call', 'fault', 'tried', 'switch', 'next', 'holder', 'asker'];
-    $('legend').replaceChildren(...kinds.map(entry));
   }
 
   showAbout() {

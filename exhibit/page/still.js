@@ -1,51 +1,40 @@
-// What never changes in the picture of an office: its frames with their switches, and the idle links, faint. `plates`,
-// the frames' numbers, stand before the paths, `figures` behind them.
+// What never changes in the picture of an office: its frames, each with a bar for its number above its switches, and
+// the idle links, faint.
 class Still {
   constructor(layout) {
     this.layout = layout;
     const frames = TEN.flatMap(frame => [...this.frame(frame, 0), ...this.frame(frame, 2)]);
     this.figures = [...this.captions(), this.junctors(), ...frames];
-    this.plates = TEN.flatMap(frame => [this.plate(frame, 0), this.plate(frame, 2)]);
   }
 
   captions() {
-    const { columns, narrow, top, font } = this.layout, style = `font-size:${Math.max(11, font * 0.85)}px`;
-    const names = narrow ? [['lines', 0], ['trunks', 2]] : [['lines', 0], ['junctors', 1], ['trunks', 2]];
+    const { columns, top, font } = this.layout, size = Math.max(12, font * 0.85), style = `font-size:${size}px`;
+    const isRoomy = columns[3] - columns[0] > 30 * size;
+    const names = [['lines', 0], ...isRoomy ? [['junctors', 1]] : [], ['trunks', 2]];
     return names.map(([name, column]) => {
       const x = (columns[column] + columns[column + 1]) / 2;
       return figure('text', { x, y: top - 9, class: 'caption', style }, t(`picture.${name}`));
     });
   }
 
-  // The junctors, a curve for the ten of each pair of frames.
+  // The junctors: of the ten from each line link frame to each trunk link frame two, or the picture would be too full.
   junctors() {
-    const { columns } = this.layout;
-    const from = TEN.map(frame => ({ x: columns[1], y: this.middle(frame) }));
-    const to = TEN.map(frame => ({ x: columns[2], y: this.middle(frame) }));
-    return figure('path', { d: from.flatMap(l => to.map(t => curve(l, t))).join(''), class: 'weave' });
+    const junctor = (l, t, channel) => curve(...this.layout.link('JU', [l, t, channel]));
+    const d = TEN.flatMap(l => TEN.flatMap(t => [0, 5].map(channel => junctor(l, t, channel))));
+    return figure('path', { d: d.join(''), class: 'weave' });
   }
-
-  middle(frame) { return this.layout.frameTop(frame) + this.layout.frameHeight / 2; }
 
   // A frame with its two columns of ten switches.
   frame(frame, column) {
-    const { columns, frameWidth: width, frameHeight: height } = this.layout, x = columns[column];
+    const { columns, frameWidth: width, frameHeight: height, bar } = this.layout, x = columns[column];
+    const y = this.layout.frameTop(frame), style = `font-size:${Math.max(13, bar * 0.82)}px`;
     return [
-      figure('rect', { x, y: this.layout.frameTop(frame), width, height, rx: 3, class: 'frame' }),
+      figure('rect', { x, y, width, height, rx: 3, class: 'frame' }),
+      figure('rect', { x, y, width, height: bar, rx: 3, class: 'bar' }),
+      figure('text', { x: x + bar * 0.55, y: y + bar / 2, class: 'number', style }, frame),
       this.links(frame, column),
       ...TEN.flatMap(number => [column, column + 1].map(end => this.switch(frame, end, number))),
     ];
-  }
-
-  // The plate with a frame's number.
-  plate(frame, column) {
-    const { columns, frameWidth, frameHeight, narrow } = this.layout;
-    const size = narrow ? 13 : Math.max(13, Math.min(24, frameHeight * 0.38));
-    const x = columns[column] + frameWidth * 0.15, y = this.layout.front(frame);
-    const width = size * 1.05, height = size * 1.2;
-    return figure('g', { class: 'plate' },
-      figure('rect', { x: x - width / 2, y: y - height / 2, width, height, rx: 2 }),
-      figure('text', { x, y, style: `font-size:${size}px` }, frame));
   }
 
   switch(frame, column, number) {

@@ -1,37 +1,53 @@
-// What is wrong in the picture of an office: links out of order by their names, what the last turn met of them, and
-// links that carry two calls.
-const MOST_NAMED = 6;
-
+// What is wrong in the picture of an office: the links out of order that the last turn met, and links that carry two
+// calls. The names of those that it met stand there while markers are few.
 class Trouble {
   constructor(office, shared, layout) {
     this.layout = layout;
     const last = office.records[office.records.length - 1], cards = last?.cards ?? [];
-    const met = cards.map(it => it.link), { faults } = office.plan;
-    const named = new Set(faults.length <= MOST_NAMED ? faults : met);
-    const twice = shared.map(it => it.link);
-    const trial = trialOf(office);
+    const met = cards.map(it => it.link), twice = shared.map(it => it.link), trial = trialOf(office);
     this.figures = [
       ...trial ? this.trial(trial.line, met) : [],
       ...met.map(link => linkFigure(layout, link, 'met')),
       ...twice.map(link => linkFigure(layout, link, 'alarm')),
     ];
-    this.names = this.placed([
-      ...[...named].map(link => ({ link, text: link, kind: met.includes(link) ? 'met' : 'fault' })),
-      ...twice.map(link => ({ link, text: `${link} ×2`, kind: 'alarm' })),
-    ]);
+    this.names = [
+      ...office.markers.length > MANY_MARKERS ? [] : this.namesOf(met),
+      ...twice.map(link => this.plate({ ...this.pointOf(link, 0.5), text: '×2', kind: 'alarm' })),
+    ];
   }
 
-  // Each name on its link, those of neighbours one after the other, and moved apart where they would overlap.
-  placed(names) {
-    const { font, top, height } = this.layout, tall = font + 5;
-    const parts = names.length > 1 ? [0.36, 0.64] : [0.5];
-    const all = names.map((name, at) => {
-      const { kind, digits } = linkParts(name.link), part = parts[at % parts.length];
-      return { ...name, ...pointAt(kind, this.layout.link(kind, digits), part) };
-    });
+  // The point of a link at this part of its way.
+  pointOf(link, part) {
+    const { kind, digits } = linkParts(link);
+    return pointAt(kind, this.layout.link(kind, digits), part);
+  }
+
+  // The names of links, moved apart where they would overlap.
+  namesOf(links) {
+    const { top, height } = this.layout;
+    const byHeight = [...links].sort((one, other) => this.pointOf(one, 0.5).y - this.pointOf(other, 0.5).y);
+    const all = byHeight.map((link, at) => ({ text: link, kind: 'met', ...this.beside(link, at, links.length) }));
     const columns = [...new Set(all.map(it => it.x))];
-    return columns.flatMap(x => spread(all.filter(it => it.x === x), tall + 3, top, height))
-      .map(name => this.plate(name, tall));
+    return columns.flatMap(x => spread(all.filter(it => it.x === x), this.plateHeight + 3, top, height))
+      .map(name => this.plate(name));
+  }
+
+  // The place of the name of a link, one of so many from above: beside its inner end if the link is within a frame.
+  beside(link, at, count) {
+    const { kind } = linkParts(link), isLeft = kind === 'LL';
+    if (kind === 'JU') return this.besideJunctor(link, at, count);
+    const { x, y } = this.pointOf(link, isLeft ? 1 : 0);
+    return { x: x + (isLeft ? 1 : -1) * (this.plateWidth(link) / 2 + 8), y };
+  }
+
+  // Above the junctors of the upper half, below the others, so far that no plate touches its junctor.
+  besideJunctor(link, at, count) {
+    const part = count === 1 ? 0.5 : at % 2 ? 0.64 : 0.36, side = at < count / 2 ? -1 : 1;
+    const [before, { x, y }, after] = [-0.1, 0, 0.1].map(far => this.pointOf(link, part + far));
+    const slope = (after.y - before.y) / (after.x - before.x), steep = Math.abs(slope);
+    const width = this.plateWidth(link), height = this.plateHeight;
+    if (steep < 1) return { x, y: y + side * ((steep * width + height) / 2 + 5) };
+    return { x: x - side * Math.sign(slope) * ((width + height / steep) / 2 + 5), y };
   }
 
   // What a dial tone job tried before it met these links: its line, and the links of the channels that lead to them.
@@ -42,9 +58,13 @@ class Trouble {
     return [stub, ...before.map(link => linkFigure(this.layout, link, 'tried'))];
   }
 
+  plateWidth(text) { return this.layout.font * (0.68 * text.length + 0.7); }
+
+  get plateHeight() { return this.layout.font + 5; }
+
   // A name on a plate: as a trouble card, if the last turn met the link.
-  plate({ x, y, text, kind }, height) {
-    const width = this.layout.font * (0.68 * text.length + 0.7), left = x - width / 2, top = y - height / 2;
+  plate({ x, y, text, kind }) {
+    const width = this.plateWidth(text), height = this.plateHeight, left = x - width / 2, top = y - height / 2;
     const corner = kind === 'met' ? height * 0.35 : 0;
     const d = `M${left + corner} ${top}h${width - corner}v${height}h${-width}v${corner - height}z`;
     return figure('g', { class: `name ${kind}` }, figure('path', { d }), figure('text', { x, y }, text));

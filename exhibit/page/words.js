@@ -43,6 +43,15 @@ function endWords(record, office) {
   });
 }
 
+// What stands above the picture: how much was done, and the links out of order, where they are few.
+const MOST_NAMED = 6;
+
+function titleWords({ records, paths, plan: { faults } }) {
+  const title = t('real.title', { turns: records.length, paths: paths.length });
+  const isNamed = faults.length > 0 && faults.length <= MOST_NAMED;
+  return isNamed ? `${title} ${t('real.faults', { links: faults.join(', ') })}` : title;
+}
+
 // An event as a sentence of its marker.
 function eventWords(event, office) {
   const isJob = event.event === 'assignment';

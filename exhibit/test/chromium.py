@@ -158,7 +158,7 @@ class Chromium(Browser):
 
     def size(self, width, height, scale=1, touch=False):
         self._call("Emulation.setDeviceMetricsOverride", width=width, height=height, deviceScaleFactor=scale,
-                   mobile=False)
+                   mobile=touch)
         self._call("Emulation.setTouchEmulationEnabled", enabled=touch, maxTouchPoints=5)
 
     def run(self, javascript, *values):

@@ -60,6 +60,24 @@ def forty_paths(test):
     take(test, "forty-paths")
 
 
+def two_calls_on_one_link(test):
+    """Two markers without connectors, step by step in turns."""
+    test.page.mode("break")
+    test.page.press("#both")
+    for name in ("0", "1") * 40:
+        if test.page.enabled(marker(name)):
+            test.page.press(marker(name))
+    test.check(test.page.count("#naive .alarm"), "no link carries two calls")
+    take(test, "two-calls-on-one-link")
+
+
+def film(test):
+    test.page.mode("film")
+    test.page.automatic(False)
+    test.page.skip(2)
+    take(test, "film")
+
+
 def rush(test):
     test.page.mode("rush")
     test.page.automatic(True, "End")
@@ -67,11 +85,14 @@ def rush(test):
     take(test, "rush")
 
 
-@scenario("pictures", "screenshots of a call, a meeting, a trouble card, forty paths, the rush hour")
+ACTS = (call, meeting, trouble, forty_paths, two_calls_on_one_link, film, rush)
+
+
+@scenario("pictures", "screenshots of the page at its best moments")
 def screenshots(test):
-    for act in (call, meeting, trouble, forty_paths, rush):
+    for act in ACTS:
         test.page.open()
         if act is not rush:
             test.page.automatic(False)
         act(test)
-    test.figure(f"{len(SIZES) * 5} pictures in {test.options.pictures}")
+    test.figure(f"{len(SIZES) * len(ACTS)} pictures in {test.options.pictures}")
