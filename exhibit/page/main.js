@@ -101,6 +101,7 @@ class Page {
 
   listen() {
     const now = () => this.stage;
+    stayAtEnd($('turns'));
     for (const tab of $('modes').children) tab.onclick = () => this.choose(tab.dataset.mode);
     $('modes').onkeydown = event => this.moveTab(event);
     $('auto').onchange = event => { now().auto = event.target.checked; this.refresh(now()); };

@@ -11,6 +11,13 @@ function showTurns(list, office) {
   list.scrollTop = list.scrollHeight;
 }
 
+// Keeps the end of a list in view when its height changes, unless the visitor has scrolled away from it.
+function stayAtEnd(list) {
+  let isAtEnd = true;
+  list.onscroll = () => { isAtEnd = list.scrollHeight - list.scrollTop - list.clientHeight < 4; };
+  new ResizeObserver(() => { if (isAtEnd) list.scrollTop = list.scrollHeight; }).observe(list);
+}
+
 function makeTurn(record, office) {
   const words = endWords(record, office), path = [record.path, record.other].filter(it => it).join(' + ');
   return element('li', { 'data-turn': record.turn, value: record.turn, style: `--own:${markerColour(record.marker)}` },
@@ -23,7 +30,9 @@ function showCards(place, office) {
   const cards = office.records.flatMap(record => record.cards.map(card => ({ record, card }))).slice(-MOST_SHOWN);
   place.parentElement.hidden = cards.length === 0;
   const keyOf = it => `${it.record.turn} ${it.card.trial} ${texts.language}`;
+  const last = place.lastChild;
   keepList(place, cards, keyOf, makeCard, () => {});
+  if (place.lastChild !== last) place.scrollTop = place.scrollHeight;
 }
 
 // A trouble card as it is punched: the kind of the link, and its three digits, each in a row of ten places.
