@@ -18,7 +18,8 @@ function stepWords(step, office) {
   const object = step.object ? objectWords(step.object) : '', end = step.record ? endWords(step.record, office) : '';
   const act = t(`act.${step.act}`, { object, items, end, turn: step.turn ?? '' });
   const found = step.act === 'test' && 'found' in step ? (items ? t('found.some', { items }) : t('found.none')) : '';
-  return [act, found, deniedWords(step), isThere(step.ended) ? t('step.ended') : ''].filter(it => it).join(' ');
+  const ended = isThere(step.ended) ? t('step.ended') : '';
+  return [found ? `${act}:` : act, found, deniedWords(step), ended].filter(it => it).join(' ');
 }
 
 function deniedWords({ holder, preferred }) {
