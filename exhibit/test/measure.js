@@ -161,6 +161,43 @@ function cutByParent(element) {
     return false;
 }
 
+// What covers a path or a text in the pictures of offices: badges, frames' numbers, labels, names of links that were met.
+function measureOverlaps() {
+    const parts = [...document.querySelectorAll(".badge, .number, .more, .label, .caption, .name.met")];
+    const boxes = parts.map(element => ({element, box: inner(element)}));
+    const covers = boxes.flatMap(({element, box}, at) => boxes.slice(at + 1)
+        .filter(other => meet(box, other.box)).map(other => `${labelOf(element)} and ${labelOf(other.element)}`));
+    for (const path of document.querySelectorAll(".link:is(.register, .call, .partial)"))
+        for (const {element, box} of boxes)
+            if (pointsOf(path).some(point => meet(box, point))) covers.push(`${labelOf(element)} and a path`);
+    return covers;
+}
+
+// An element's box, of a text that of its letters alone.
+function inner(element) {
+    const {left, right, top, bottom, height} = element.getBoundingClientRect();
+    const spare = element instanceof SVGTextContentElement ? height * 0.18 : 0;
+    return {left, right, top: top + spare, bottom: bottom - spare};
+}
+
+function meet(one, other) {
+    return one.left < other.right && other.left < one.right && one.top < other.bottom && other.top < one.bottom;
+}
+
+const labelOf = element => `${nameOf(element)} ${element.textContent}`;
+
+// The points of a path in the window, three pixels apart.
+function pointsOf(path) {
+    if (!path.points) {
+        const matrix = path.getScreenCTM(), length = path.getTotalLength();
+        path.points = Array.from({length: Math.floor(length / 3) + 1}, (_, at) => {
+            const {x, y} = path.getPointAtLength(3 * at).matrixTransform(matrix);
+            return {left: x - 0.5, right: x + 0.5, top: y - 0.5, bottom: y + 0.5};
+        });
+    }
+    return path.points;
+}
+
 // All strings that a visitor sees or a screen reader says, but for those in a language of their own.
 function strings() {
     const own = element => element.closest("[translate=no], code, pre")

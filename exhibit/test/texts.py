@@ -191,3 +191,28 @@ def check_sizes(test, what):
         test.page.idle()
         check_texts(test, f"{what} at {width}x{height}")
     test.browser.size(1280, 720)
+
+
+@scenario("j5", "nothing in the picture covers a path or a text")
+def nothing_covered(test):
+    test.page.mode("rush")
+    test.page.automatic(True, "End")
+    for paths in (5, 15, 25):
+        test.browser.wait("return exhibit.page.stage.session.office.paths.length >= values[0]", 60, paths)
+        test.page.automatic(False)
+        test.page.idle()
+        check_overlaps(test, f"rush hour with {paths} paths")
+        test.page.automatic(True)
+    test.page.drop(test.file("faults.toml", plans.plan_with_faults()))
+    test.page.lift("0001")
+    test.page.finish()
+    check_overlaps(test, "two links met out of order")
+
+
+def check_overlaps(test, what):
+    for width, height in (*SIZES, LOW):
+        test.browser.size(width, height)
+        test.page.idle()
+        found = measured(test, "measureOverlaps()")
+        test.check(not found, f"{what} at {width}x{height}: {len(found)} overlap: {'; '.join(found[:4])}")
+    test.browser.size(1280, 720)
