@@ -161,7 +161,7 @@ function cutByParent(element) {
     return false;
 }
 
-// What covers a path or a text in the pictures of offices: badges, frames' numbers, labels, names of links that were met.
+// What covers a path or a text in the pictures of offices: badges, frames' numbers, labels, names of links.
 function measureOverlaps() {
     const parts = [...document.querySelectorAll(".badge, .number, .more, .label, .caption, .name.met")];
     const boxes = parts.map(element => ({element, box: inner(element)}));
