@@ -6,7 +6,7 @@ use Rattle.turns.specs.Script.{walk}
 use Rattle.turns.specs.Seen.{AreReadWords, Seen}
 use Rattle.turns.specs.System.{System}
 use Rattle.turns.specs.declared.answer.Answer.{Answer}
-use Rattle.turns.specs.declared.answer.Answer.TheVariants.{Requested, Seized, Held, Preferred, Changed, Value, Turn, Done}
+use Rattle.turns.specs.declared.answer.Answer.TheVariants.{Asked, Seized, Held, Preferred, Again, Value, Turn, Done}
 use Rattle.turns.specs.declared.phase.Phase.{Phase}
 use Rattle.turns.specs.declared.phase.Phase.TheVariants.{Requests, Seizes, Tests, Turns, Withdraws, GivesBack, Operates}
 use Rattle.turns.specs.declared.wanted.Wanted.{Wanted}
@@ -26,11 +26,11 @@ use Rattle.attempts.proofs.WalksOnWords.{walk_none}
 module _ (O : System) where
   open O use {Lock}
 
-  idle_asked : (a : AttemptOf O) (phase : Phase Lock ℕ) (word : ℕ) → ((lock : Lock) → phase ≡ Requests lock → ⊥) → a ≡ changed O a phase (Requested word)
+  idle_asked : (a : AttemptOf O) (phase : Phase Lock ℕ) (word : ℕ) → ((lock : Lock) → phase ≡ Requests lock → ⊥) → a ≡ changed O a phase (Asked word)
   idle_asked a (Requests lock) word not = absurd (not lock refl)
   idle_asked a phase word not = refl
 
-  idle_again : (a : AttemptOf O) (phase : Phase Lock ℕ) (word : ℕ) → ((lock : Lock) (expected : ℕ) → phase ≡ Seizes lock expected → ⊥) → a ≡ changed O a phase (Changed word)
+  idle_again : (a : AttemptOf O) (phase : Phase Lock ℕ) (word : ℕ) → ((lock : Lock) (expected : ℕ) → phase ≡ Seizes lock expected → ⊥) → a ≡ changed O a phase (Again word)
   idle_again a (Seizes lock expected) word not = absurd (not lock expected refl)
   idle_again a phase word not = refl
 
@@ -106,20 +106,20 @@ module _ {Lock Job Reply Effect Decision ResumePoint : Type 0} (same : Lock → 
     with_phase phase next answer is fits change valid_point =
         took now (record p { phase = next }) phase answer (phase_now p now phase inside is) fits (change ∙ ap (λ (x : Doing). changed O (outside x) phase answer) inside) valid_point (ap (λ (x : Doing). x.count) inside)
 
-    pub asked : (lock : Lock) (word : ℕ) → p.phase ≡ Requests lock → Took (Requested word) now (record p { phase = Seizes lock word })
-    asked lock word is = with_phase (Requests lock) (Seizes lock word) (Requested word) is tt refl (point_in (Requests lock) is)
+    pub asked : (lock : Lock) (word : ℕ) → p.phase ≡ Requests lock → Took (Asked word) now (record p { phase = Seizes lock word })
+    asked lock word is = with_phase (Requests lock) (Seizes lock word) (Asked word) is tt refl (point_in (Requests lock) is)
 
-    pub again : (lock : Lock) (expected word : ℕ) → p.phase ≡ Seizes lock expected → Took (Changed word) now (record p { phase = Seizes lock word })
-    again lock expected word is = with_phase (Seizes lock expected) (Seizes lock word) (Changed word) is tt refl (point_in (Seizes lock expected) is)
+    pub again : (lock : Lock) (expected word : ℕ) → p.phase ≡ Seizes lock expected → Took (Again word) now (record p { phase = Seizes lock word })
+    again lock expected word is = with_phase (Seizes lock expected) (Seizes lock word) (Again word) is tt refl (point_in (Seizes lock expected) is)
 
     pub turned : (number : ℕ) → p.phase ≡ Turns → Took (Turn number) now (record p { phase = Operates number })
     turned number is = with_phase Turns (Operates number) (Turn number) is tt refl tt
 
-    pub not_asked : (word : ℕ) → ((lock : Lock) → p.phase ≡ Requests lock → ⊥) → Took (Requested word) now now
-    not_asked word not = idle now (Requested word) tt point (idle_asked O (outside now) now.phase word (λ lock e. not lock (phases ∙ e)))
+    pub not_asked : (word : ℕ) → ((lock : Lock) → p.phase ≡ Requests lock → ⊥) → Took (Asked word) now now
+    not_asked word not = idle now (Asked word) tt point (idle_asked O (outside now) now.phase word (λ lock e. not lock (phases ∙ e)))
 
-    pub not_again : (word : ℕ) → ((lock : Lock) (expected : ℕ) → p.phase ≡ Seizes lock expected → ⊥) → Took (Changed word) now now
-    not_again word not = idle now (Changed word) tt point (idle_again O (outside now) now.phase word (λ lock expected e. not lock expected (phases ∙ e)))
+    pub not_again : (word : ℕ) → ((lock : Lock) (expected : ℕ) → p.phase ≡ Seizes lock expected → ⊥) → Took (Again word) now now
+    not_again word not = idle now (Again word) tt point (idle_again O (outside now) now.phase word (λ lock expected e. not lock expected (phases ∙ e)))
 
     pub not_seized : ((lock : Lock) (expected : ℕ) → p.phase ≡ Seizes lock expected → ⊥) → Took Seized now now
     not_seized not = idle now Seized tt point (idle_seized O (outside now) now.phase (λ lock expected e. not lock expected (phases ∙ e)))

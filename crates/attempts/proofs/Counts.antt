@@ -6,7 +6,7 @@ use Rattle.turns.specs.Attempt.{AttemptOf, IsAnswerTo, act_in, begin, change, ch
 use Rattle.turns.specs.Bounds.{AreSteady, IsSteady}
 use Rattle.turns.specs.System.{System}
 use Rattle.turns.specs.declared.answer.Answer.{Answer}
-use Rattle.turns.specs.declared.answer.Answer.TheVariants.{Requested, Seized, Held, Preferred, Changed, Value, Turn, Done}
+use Rattle.turns.specs.declared.answer.Answer.TheVariants.{Asked, Seized, Held, Preferred, Again, Value, Turn, Done}
 use Rattle.turns.specs.declared.phase.Phase.{Phase}
 use Rattle.turns.specs.declared.phase.Phase.TheVariants.{Requests, Seizes, Tests, Turns, Withdraws, GivesBack, Operates}
 use Rattle.turns.specs.declared.wanted.Wanted.{Wanted}
@@ -59,7 +59,7 @@ module _ (O : System) where
   begun_operated a turn (effect ∷ effects) at = subst (λ (phase : Phase Lock ℕ). HasBegun phase a.held) (sym at) tt
 
   begun_in : (a : AttemptOf O) (phase : Phase Lock ℕ) (answer : Answer) → a.phase ≡ phase → HasBegun phase a.held → IsAnswerTo (act_in phase a) answer → IsSteady answer → HasBegun (changed O a phase answer).phase (changed O a phase answer).held
-  begun_in a (Requests lock) (Requested word) at begun fits steady = tt
+  begun_in a (Requests lock) (Asked word) at begun fits steady = tt
   begun_in a (Requests lock) (Held holder) at begun fits steady = absurd steady
   begun_in a (Requests lock) (Preferred other) at begun fits steady = absurd steady
   begun_in a (Requests lock) answer at begun fits steady = absurd fits
@@ -68,7 +68,7 @@ module _ (O : System) where
       begun_on more (walk_result O more) (not_empty a.held lock)
   begun_in a (Seizes lock expected) (Held holder) at begun fits steady = absurd steady
   begun_in a (Seizes lock expected) (Preferred other) at begun fits steady = absurd steady
-  begun_in a (Seizes lock expected) (Changed word) at begun fits steady = absurd steady
+  begun_in a (Seizes lock expected) (Again word) at begun fits steady = absurd steady
   begun_in a (Seizes lock expected) answer at begun fits steady = absurd fits
   begun_in a (Tests word) (Value value) at begun fits steady =
       let more : AttemptOf O = record a { readings = a.readings ++ record { word = word; value = value } ∷ [] } in
@@ -93,8 +93,8 @@ module _ (O : System) where
 
   pub count_is : (job : Job) (answers : List Answer) → AreSteady O (begin O job) answers → length answers < 2 ^ 32 → (after_answers O (fresh O job) answers).count ≡ length answers
   count_is job [] steady below = refl
-  count_is job (Requested word ∷ answers) (fits, steady, later) below =
-      let rest = count_along (after_answer O (fresh O job) (Requested word)) answers tt later (omega (arith, below)) in
+  count_is job (Asked word ∷ answers) (fits, steady, later) below =
+      let rest = count_along (after_answer O (fresh O job) (Asked word)) answers tt later (omega (arith, below)) in
       omega (arith, rest)
   count_is job (Held holder ∷ answers) (fits, steady, later) below = absurd steady
   count_is job (Preferred other ∷ answers) (fits, steady, later) below = absurd steady

@@ -7,7 +7,7 @@ use Rattle.turns.specs.Seen.{Seen, AreReadWords}
 use Rattle.turns.specs.System.{System, IsSystem, DecidesUnder, IsUnder}
 use Rattle.turns.specs.World.{place}
 use Rattle.turns.specs.declared.answer.Answer.{Answer}
-use Rattle.turns.specs.declared.answer.Answer.TheVariants.{Requested, Seized, Held, Preferred, Changed, Value, Turn, Done}
+use Rattle.turns.specs.declared.answer.Answer.TheVariants.{Asked, Seized, Held, Preferred, Again, Value, Turn, Done}
 use Rattle.turns.specs.declared.phase.Phase.{Phase}
 use Rattle.turns.specs.declared.phase.Phase.TheVariants.{Requests, Seizes, Tests, Turns, Withdraws, GivesBack, Operates}
 use Rattle.turns.specs.declared.reading.Reading.{Reading}
@@ -109,13 +109,13 @@ module _ (O : System) (is : IsSystem O) (most_readings most_held : ℕ) (asks : 
 
   -- whatever the answer to its step, a valid attempt has room again
   room_changed : (a : AttemptOf O) (phase : Phase Lock ℕ) (answer : Answer) → FitsValue answer → O.IsJob a.job → AreReadWords a.readings → a.phase ≡ phase → RoomIn a a.phase → IsValidIn O a phase → RoomIn a phase → RoomIn (changed O a phase answer) (changed O a phase answer).phase
-  room_changed a (Requests lock) (Requested told) fits right read at all valid room = room
+  room_changed a (Requests lock) (Asked told) fits right read at all valid room = room
   room_changed a (Requests lock) (Held holder) fits right read at all valid room = tt
   room_changed a (Requests lock) (Preferred other) fits right read at all valid room = tt
   room_changed a (Seizes lock expected) Seized fits right read at all valid room =
       let more : AttemptOf O = record a { held = a.held ++ lock ∷ [] } in
       room_on more (walk_result O more) (room_seized a lock read valid room).room
-  room_changed a (Seizes lock expected) (Changed told) fits right read at all valid room = room
+  room_changed a (Seizes lock expected) (Again told) fits right read at all valid room = room
   room_changed a (Seizes lock expected) (Held holder) fits right read at all valid room = tt
   room_changed a (Seizes lock expected) (Preferred other) fits right read at all valid room = tt
   room_changed a (Tests word) (Value value) fits right read at all valid room =
@@ -190,13 +190,13 @@ module _ (O : System) (is : IsSystem O) (most_readings most_held : ℕ) (asks : 
   keeps_in a phase keeps = record { held = keeps.held; read = keeps.read; effects = keeps.effects }
 
   keeps_changed : (a : AttemptOf O) (phase : Phase Lock ℕ) (answer : Answer) → FitsValue answer → O.IsJob a.job → IsValidIn O a phase → Keeps a → Keeps (changed O a phase answer)
-  keeps_changed a (Requests lock) (Requested word) fits right valid keeps = keeps_in a (Seizes lock word) keeps
+  keeps_changed a (Requests lock) (Asked word) fits right valid keeps = keeps_in a (Seizes lock word) keeps
   keeps_changed a (Requests lock) (Held holder) fits right valid keeps = keeps_in (forgotten a) (Withdraws lock) (keeps_put_off a keeps)
   keeps_changed a (Requests lock) (Preferred other) fits right valid keeps = keeps_in (forgotten a) (Withdraws lock) (keeps_put_off a keeps)
   keeps_changed a (Seizes lock expected) Seized fits right valid keeps =
       let more : AttemptOf O = record a { held = a.held ++ lock ∷ [] } in
       keeps_on more (walk_result O more) right refl (keeps_seized a lock (wanted_lock O is a lock right keeps.read valid) keeps)
-  keeps_changed a (Seizes lock expected) (Changed word) fits right valid keeps = keeps_in a (Seizes lock word) keeps
+  keeps_changed a (Seizes lock expected) (Again word) fits right valid keeps = keeps_in a (Seizes lock word) keeps
   keeps_changed a (Seizes lock expected) (Held holder) fits right valid keeps = keeps_in (forgotten a) (Withdraws lock) (keeps_put_off a keeps)
   keeps_changed a (Seizes lock expected) (Preferred other) fits right valid keeps = keeps_in (forgotten a) (Withdraws lock) (keeps_put_off a keeps)
   keeps_changed a (Tests word) (Value value) fits right valid keeps =

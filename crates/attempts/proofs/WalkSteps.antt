@@ -14,7 +14,7 @@ use Rattle.turns.specs.declared.answer.Answer.{Answer}
 use Rattle.turns.specs.declared.judgement.Judgement.{Judgement}
 use Rattle.turns.specs.declared.judgement.Judgement.TheVariants as judgement
 use Rattle.turns.specs.declared.judgement.Judgement.TheVariants.{Free}
-use Rattle.turns.specs.declared.answer.Answer.TheVariants.{Changed, Requested, Seized, Value}
+use Rattle.turns.specs.declared.answer.Answer.TheVariants.{Again, Asked, Seized, Value}
 use Rattle.turns.specs.declared.phase.Phase.{Phase}
 use Rattle.turns.specs.declared.phase.Phase.TheVariants.{Requests, Seizes, Tests}
 use Rattle.turns.specs.declared.wanted.Wanted.{Wanted}
@@ -78,13 +78,13 @@ module _ (O : System) (self : (lock : O.Lock) → O.same lock lock ≡ true) (re
   asks b lock words there = ap by_found there ∙ ap by_judgement asked_free where
     by_found : ℕ → Moment O
     by_found found = record {
-      attempt = change O (record b { phase = Requests lock }) (unless_denied (Requested (with_request O.sharing k found)) (O.sharing.judged k (with_request O.sharing k found)));
+      attempt = change O (record b { phase = Requests lock }) (unless_denied (Asked (with_request O.sharing k found)) (O.sharing.judged k (with_request O.sharing k found)));
       words = slice_set words (O.lock_word lock) (with_request O.sharing k found);
     }
 
     by_judgement : Judgement → Moment O
     by_judgement judgement = record {
-      attempt = change O (record b { phase = Requests lock }) (unless_denied (Requested asked) judgement);
+      attempt = change O (record b { phase = Requests lock }) (unless_denied (Asked asked) judgement);
       words = slice_set words (O.lock_word lock) asked;
     }
 
@@ -93,13 +93,13 @@ module _ (O : System) (self : (lock : O.Lock) → O.same lock lock ≡ true) (re
   takes b lock words there = ap by_found there ∙ ap by_test (eq-eqb asked asked refl) where
     by_found : ℕ → Moment O
     by_found found = record {
-      attempt = change O (record b { phase = Seizes lock asked }) (if found == asked then Seized else unless_denied (Changed found) (O.sharing.judged k found));
+      attempt = change O (record b { phase = Seizes lock asked }) (if found == asked then Seized else unless_denied (Again found) (O.sharing.judged k found));
       words = slice_set words (O.lock_word lock) (if found == asked then held_word else found);
     }
 
     by_test : Bool → Moment O
     by_test as_expected = record {
-      attempt = change O (record b { phase = Seizes lock asked }) (if as_expected then Seized else unless_denied (Changed asked) (O.sharing.judged k asked));
+      attempt = change O (record b { phase = Seizes lock asked }) (if as_expected then Seized else unless_denied (Again asked) (O.sharing.judged k asked));
       words = slice_set words (O.lock_word lock) (if as_expected then held_word else asked);
     }
 
@@ -133,7 +133,7 @@ module _ (O : System) (self : (lock : O.Lock) → O.same lock lock ≡ true) (re
   asked_answer lock answer is (judgement.Held holder) = tt
   asked_answer lock answer is (judgement.Preferred other) = tt
 
-  taken_answer : (lock : Lock) (expected found : ℕ) (as_expected : Bool) (judgement : Judgement) → IsAnswerHere (act_is.Seize lock expected) (if as_expected then Seized else unless_denied (Changed found) judgement)
+  taken_answer : (lock : Lock) (expected found : ℕ) (as_expected : Bool) (judgement : Judgement) → IsAnswerHere (act_is.Seize lock expected) (if as_expected then Seized else unless_denied (Again found) judgement)
   taken_answer lock expected found true judgement = tt
   taken_answer lock expected found false judgement.Free = tt
   taken_answer lock expected found false (judgement.Held holder) = tt
@@ -201,7 +201,7 @@ module _ (O : System) (self : (lock : O.Lock) → O.same lock lock ≡ true) (re
         at false true is there later = record {
           made = suc (suc (made_later.made));
           left = (let above : 1 < state.left = (seized_there state.left (seizes - length state.seen.held) (slice_get words (O.lock_word lock)) there).0 in let then_left : state.left - 2 ≡ made_later.made + (plain script more after).state.left = made_later.left in omega arith);
-          steps = (tt, (asked_answer lock (Requested (with_request O.sharing k (slice_index words (O.lock_word lock)))) tt (O.sharing.judged k (with_request O.sharing k (slice_index words (O.lock_word lock)))), subst (λ (m : Moment O). LeadsTo O k (suc (made_later.made)) m last) (sym asking) (tt, (taken_answer lock asked between (between == asked) (O.sharing.judged k between), subst (λ (m : Moment O). LeadsTo O k made_later.made m last) (sym taking) made_later.steps))));
+          steps = (tt, (asked_answer lock (Asked (with_request O.sharing k (slice_index words (O.lock_word lock)))) tt (O.sharing.judged k (with_request O.sharing k (slice_index words (O.lock_word lock)))), subst (λ (m : Moment O). LeadsTo O k (suc (made_later.made)) m last) (sym asking) (tt, (taken_answer lock asked between (between == asked) (O.sharing.judged k between), subst (λ (m : Moment O). LeadsTo O k made_later.made m last) (sym taking) made_later.steps))));
         } where
           more : WalkState Lock
           more = with_lock state lock

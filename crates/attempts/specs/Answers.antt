@@ -10,11 +10,11 @@ use Rattle.turns.specs.declared.phase.Phase.TheVariants.{Requests, Seizes, Tests
 -- the answer to actor k's next step in this phase, which found this number in its word
 abbrev pub answer_in : {Lock : Type 0} → Phase Lock ℕ → ℕ → ℕ → Answer
 answer_in (Requests lock) k found =
-    turns.unless_denied (answer.Requested (with_request preferring k found))
+    turns.unless_denied (answer.Asked (with_request preferring k found))
     (preferring.judged k (with_request preferring k found))
 answer_in (Seizes lock expected) k found =
     if found == expected then answer.Seized
-    else turns.unless_denied (answer.Changed found) (preferring.judged k found)
+    else turns.unless_denied (answer.Again found) (preferring.judged k found)
 answer_in (Tests word) k found = answer.Value found
 answer_in Turns k found = answer.Turn found
 answer_in phase k found = answer.Done

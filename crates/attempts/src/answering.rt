@@ -134,7 +134,7 @@ fn apply_requested<S: Scripts<READINGS, HELD>, const READINGS: usize, const HELD
 )
     requires valid { IsValid S.Lock.eq S.Scripts setting.now attempt.old }
     ensures { Applies S.Lock.eq S.Scripts setting.now
-        (Answer.Requested word) attempt.old attempt.new }
+        (Answer.Asked word) attempt.old attempt.new }
 {
     let phase = attempt.phase;
     if let Phase::Requests(lock) = phase {
@@ -150,7 +150,7 @@ fn apply_changed<S: Scripts<READINGS, HELD>, const READINGS: usize, const HELD: 
 )
     requires valid { IsValid S.Lock.eq S.Scripts setting.now attempt.old }
     ensures { Applies S.Lock.eq S.Scripts setting.now
-        (Answer.Changed word) attempt.old attempt.new }
+        (Answer.Again word) attempt.old attempt.new }
 {
     let phase = attempt.phase;
     if let Phase::Seizes(lock, _) = phase {
@@ -366,8 +366,8 @@ pub(crate) fn apply_uncounted<S: Scripts<READINGS, HELD>, const READINGS: usize,
     ensures { Applies S.Lock.eq S.Scripts setting.now answer attempt.old attempt.new }
 {
     match answer {
-        Answer::Requested(word) => apply_requested::<S, READINGS, HELD>(attempt, setting, word),
-        Answer::Changed(word) => apply_changed::<S, READINGS, HELD>(attempt, setting, word),
+        Answer::Asked(word) => apply_requested::<S, READINGS, HELD>(attempt, setting, word),
+        Answer::Again(word) => apply_changed::<S, READINGS, HELD>(attempt, setting, word),
         Answer::Held(_) => apply_denied::<S, READINGS, HELD>(attempt, setting),
         Answer::Preferred(_) => apply_denied::<S, READINGS, HELD>(attempt, setting),
         Answer::Seized => apply_seized::<S, READINGS, HELD>(attempt, setting),

@@ -5,7 +5,7 @@ use Rattle.turns.specs.System.{System}
 use Rattle.turns.specs.Attempt.{AttemptOf, changed, giving_back, goes_on, operated, rest_of}
 use Rattle.turns.specs.World.{ActorOf, Idle, Does, RecordOf}
 use Rattle.turns.specs.declared.answer.Answer.{Answer}
-use Rattle.turns.specs.declared.answer.Answer.TheVariants.{Requested, Seized, Held, Preferred, Changed, Value, Turn as TurnNumber, Done}
+use Rattle.turns.specs.declared.answer.Answer.TheVariants.{Asked, Seized, Held, Preferred, Again, Value, Turn as TurnNumber, Done}
 use Rattle.turns.specs.declared.phase.Phase.{Phase}
 use Rattle.turns.specs.declared.phase.Phase.TheVariants.{Requests, Seizes, Tests, Turns, Withdraws, GivesBack, Operates}
 use Rattle.turns.specs.declared.wanted.Wanted.{Wanted}
@@ -33,13 +33,13 @@ module _ (O : System) where
   operated_job a (effect ∷ effects) = refl
 
   changed_job : (a : AttemptOf O) (phase : Phase Lock ℕ) (answer : Answer) → (changed O a phase answer).job ≡ a.job
-  changed_job a (Requests lock) (Requested word) = refl
+  changed_job a (Requests lock) (Asked word) = refl
   changed_job a (Requests lock) (Held holder) = refl
   changed_job a (Requests lock) (Preferred other) = refl
   changed_job a (Seizes lock expected) Seized = goes_job (record a { held = a.held ++ lock ∷ [] }) _
   changed_job a (Seizes lock expected) (Held holder) = refl
   changed_job a (Seizes lock expected) (Preferred other) = refl
-  changed_job a (Seizes lock expected) (Changed word) = refl
+  changed_job a (Seizes lock expected) (Again word) = refl
   changed_job a (Tests word) (Value value) = goes_job (record a { readings = a.readings ++ record { word = word; value = value } ∷ [] }) _
   changed_job a Turns (TurnNumber number) = refl
   changed_job a (Withdraws lock) Done = freed_job a a.held

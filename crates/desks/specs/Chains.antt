@@ -1,7 +1,7 @@
 -- chains of a desk's steps, whose number is bounded
 use Rattle.std.specs.Prelude.{◌≡◌, ℕ, zero, suc, List}
 use Rattle.turns.specs.System.{System}
-use Rattle.turns.specs.World.{World, ActorOf, RecordOf, moved}
+use Rattle.turns.specs.World.{ActorOf, RecordOf}
 use Rattle.turns.specs.Bounds.{IsSteady}
 use Rattle.turns.specs.declared.answer.Answer.{Answer}
 use Rattle.desks.specs.Desks.{HasStepped}
@@ -16,13 +16,3 @@ module _ (O : System) where
       (between : ActorOf O) × (seen seen_after : List (RecordOf O)) × (answer : Answer)
       × HasStepped O k before between seen seen_after answer × IsSteady answer
       × MadeSteadily k count between after
-
-  -- actor k made this number of steps from this world on, one after another, and nobody else made
-  -- a move meanwhile: each step was made in the world that the step before it left
-  abbrev pub MadeAlone : ℕ → ℕ → World O → ActorOf O → ActorOf O → Type 0
-  MadeAlone k zero w before after = after ≡ before
-  MadeAlone k (suc count) w before after =
-      (between : ActorOf O) × (seen seen_after : List (RecordOf O)) × (answer : Answer)
-      × (step : HasStepped O k before between seen seen_after answer)
-      × (step.world ≡ w)
-      × MadeAlone k count (moved O k step.number step.attempt w) between after

@@ -61,12 +61,13 @@ fn test_predictions<F: Jobs, W: Watch>(
     let predictions = F::predictions(setting, program);
     let mut made = 0;
     while let Some(prediction) = prediction_at(predictions, made) {
-        watch.before_step();
         let test = WordStep {
             place: prediction.word,
             operation: Operation::Load,
         };
-        let found = make::<F, Brand>(shared, setting, seat, actor, number, program, made, test);
+        let found = make::<F, W, Brand>(
+            shared, setting, seat, actor, number, program, made, test, watch,
+        );
         if found != prediction.value {
             return (made, Some(found));
         }

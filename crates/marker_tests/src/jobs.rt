@@ -20,15 +20,15 @@ const GROUP: Conn = Conn::Group(0);
 /// the answer.
 const STEPS: [(u32, Step, u64, u64, Answer); 20] = [
     // The lower marker is preferred, seizes at its second try, and holds the connector.
-    (0, Step::Request(LINES), 0, 256, Answer::Requested(256)),
+    (0, Step::Request(LINES), 0, 256, Answer::Asked(256)),
     (1, Step::Request(LINES), 256, 768, Answer::Preferred(0)),
-    (0, Step::Seize(LINES, 256), 768, 768, Answer::Changed(768)),
+    (0, Step::Seize(LINES, 256), 768, 768, Answer::Again(768)),
     (0, Step::Seize(LINES, 768), 768, 513, Answer::Seized),
     (1, Step::Withdraw(LINES), 513, 1, Answer::Done),
     (1, Step::Request(LINES), 1, 513, Answer::Held(0)),
     // The lower marker is preferred though it comes later.
-    (1, Step::Request(LINES), 0, 512, Answer::Requested(512)),
-    (0, Step::Request(LINES), 512, 768, Answer::Requested(768)),
+    (1, Step::Request(LINES), 0, 512, Answer::Asked(512)),
+    (0, Step::Request(LINES), 512, 768, Answer::Asked(768)),
     (1, Step::Seize(LINES, 512), 768, 768, Answer::Preferred(0)),
     // Marker 7 holds a connector.
     (1, Step::Request(GROUP), 8, 520, Answer::Held(7)),
@@ -40,7 +40,7 @@ const STEPS: [(u32, Step, u64, u64, Answer); 20] = [
         Step::Request(LINES),
         0,
         1 << 55,
-        Answer::Requested(1 << 55),
+        Answer::Asked(1 << 55),
     ),
     (47, Step::Seize(LINES, 1 << 55), 1 << 55, 48, Answer::Seized),
     (47, Step::Seize(LINES, 1 << 55), 8, 8, Answer::Held(7)),

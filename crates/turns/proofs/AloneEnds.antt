@@ -10,7 +10,7 @@ use Rattle.turns.specs.declared.act.Act.TheVariants.{Finished}
 use Rattle.turns.specs.World.{World, ActorOf, Does, moved, place}
 use Rattle.turns.specs.Law.{IsAvailable, Lawful, word_at}
 use Rattle.turns.specs.Bounds.{AreBounded, after_steps}
-use Rattle.turns.specs.declared.answer.Answer.TheVariants.{Seized, Changed}
+use Rattle.turns.specs.declared.answer.Answer.TheVariants.{Seized, Again}
 use Rattle.turns.specs.declared.judgement.Judgement.{Judgement}
 use Rattle.turns.specs.declared.phase.Phase.{Phase}
 use Rattle.turns.specs.declared.phase.Phase.TheVariants.{Requests, Seizes as SeizesNext, Tests as TestsNext, Turns, Withdraws, GivesBack, Operates}
@@ -100,10 +100,10 @@ module _ (O : System) (is : IsSystem O) (tests seizings effects : ℕ) (bounded 
       exact_or_again : (phase : Phase Lock ℕ) → IsValidIn O a phase → WithinIn O is tests seizings effects bounded enough a phase
           → IsExact O w.words phase ⊎ IsWithin O is tests seizings effects bounded enough (changed O a phase (answer_to O k (act_in phase a) (slice_index w.words (place O (act_in phase a)))))
       exact_or_again (SeizesNext lock expected) valid room = at (one_or_two (word_at O w.words lock) expected) where
-        again : word_at O w.words lock ≢ expected → (b : Bool) → (word_at O w.words lock == expected) ≡ b → IsWithin O is tests seizings effects bounded enough (changed O a (SeizesNext lock expected) (if b then Seized else unless_denied (Changed (word_at O w.words lock)) (sharing.judged k (word_at O w.words lock))))
+        again : word_at O w.words lock ≢ expected → (b : Bool) → (word_at O w.words lock == expected) ≡ b → IsWithin O is tests seizings effects bounded enough (changed O a (SeizesNext lock expected) (if b then Seized else unless_denied (Again (word_at O w.words lock)) (sharing.judged k (word_at O w.words lock))))
         again other true e = absurd (other (eqb-true (word_at O w.words lock) expected e))
         again other false e =
-            subst (λ (j : Judgement). IsWithin O is tests seizings effects bounded enough (changed O a (SeizesNext lock expected) (unless_denied (Changed (word_at O w.words lock)) j)))
+            subst (λ (j : Judgement). IsWithin O is tests seizings effects bounded enough (changed O a (SeizesNext lock expected) (unless_denied (Again (word_at O w.words lock)) j)))
             (sym (free_again O is w law k number a there aside room.read lock valid)) (room_more O is tests seizings effects bounded (suc enough) (suc enough) (record a { phase = SeizesNext lock (word_at O w.words lock) }) (omega arith) (record { more_tests = room.more_tests; more_seizings = room.more_seizings; read = room.read; asks = room.asks; fits = room.fits }))
 
         at : (word_at O w.words lock ≡ expected) ⊎ (word_at O w.words lock ≢ expected) → IsExact O w.words (SeizesNext lock expected) ⊎ IsWithin O is tests seizings effects bounded enough (changed O a (SeizesNext lock expected) (answer_to O k (act_in (SeizesNext lock expected) a) (word_at O w.words lock)))

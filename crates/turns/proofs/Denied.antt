@@ -9,17 +9,17 @@ use Rattle.turns.specs.declared.act.Act.{Act}
 use Rattle.turns.specs.declared.act.Act.TheVariants.{Finished, Request, Seize, Withdraw, Free as FreeAct, Test, Turn as TurnAct, Make}
 use Rattle.turns.specs.Denied.{IsDeniedBy}
 use Rattle.turns.specs.declared.answer.Answer.{Answer}
-use Rattle.turns.specs.declared.answer.Answer.TheVariants.{Requested, Seized, Held, Preferred, Changed, Value, Turn, Done}
+use Rattle.turns.specs.declared.answer.Answer.TheVariants.{Asked, Seized, Held, Preferred, Again, Value, Turn, Done}
 use Rattle.turns.specs.declared.judgement.Judgement.{Judgement}
 use Rattle.turns.specs.declared.judgement.Judgement.TheVariants as judgement
 
 -- an answer that denies no lock
 abbrev GoesOn : Answer → Type 0
-GoesOn (Requested word) = ⊤
+GoesOn (Asked word) = ⊤
 GoesOn Seized = ⊤
 GoesOn (Held holder) = ⊥
 GoesOn (Preferred other) = ⊥
-GoesOn (Changed word) = ⊤
+GoesOn (Again word) = ⊤
 GoesOn (Value value) = ⊤
 GoesOn (Turn number) = ⊤
 GoesOn Done = ⊤
@@ -59,7 +59,7 @@ module _ (O : System) where
       not_so other goes same = absurd (comes.stops (subst GoesOn same goes))
 
       put_off_taking : (lock : Lock) (expected : ℕ) (b : Bool) → (found == expected) ≡ b
-          → (if b then Seized else unless_denied (Changed found) (sharing.judged k found)) ≡ answer
+          → (if b then Seized else unless_denied (Again found) (sharing.judged k found)) ≡ answer
           → IsDeniedBy O k (Seize lock expected) found judged
       put_off_taking lock expected true at same = not_so Seized tt same
       put_off_taking lock expected false at same = record {
@@ -67,14 +67,14 @@ module _ (O : System) where
         asks = inr (expected, refl, eqb-false found expected at);
         says =
             ap (λ (b : Bool). sharing.judged k (if b then sharing.taken k expected else found)) at ∙
-            comes.tells (Changed found) (sharing.judged k found) tt same;
+            comes.tells (Again found) (sharing.judged k found) tt same;
       }
 
       put_off_by : (step : Act Lock Effect) → answer_to O k step found ≡ answer
           → IsDeniedBy O k step found judged
       put_off_by (Request lock) same =
           let word = with_request sharing k found in
-          let says = comes.tells (Requested word) (sharing.judged k word) tt same in
+          let says = comes.tells (Asked word) (sharing.judged k word) tt same in
           record { lock = lock; asks = inl refl; says = says }
       put_off_by (Seize lock expected) same =
           put_off_taking lock expected (found == expected) refl same

@@ -13,7 +13,7 @@ use Rattle.turns.specs.declared.act.Act.TheVariants as act_is
 use Rattle.turns.specs.World.{becomes, place}
 use Rattle.turns.specs.Law.{word_at}
 use Rattle.turns.specs.declared.answer.Answer.{Answer}
-use Rattle.turns.specs.declared.answer.Answer.TheVariants.{Requested, Seized, Changed, Done}
+use Rattle.turns.specs.declared.answer.Answer.TheVariants.{Asked, Seized, Again, Done}
 use Rattle.turns.specs.declared.judgement.Judgement.{Judgement}
 use Rattle.turns.specs.declared.judgement.Judgement.TheVariants as judgement
 use Rattle.turns.specs.declared.phase.Phase.{Phase}
@@ -60,12 +60,12 @@ module _ (O : System) where
   open O use {Lock, Effect, Decision, IsLock, sharing}
 
   -- an answer is of the step's kind, and a value that was tested fits a word
-  told_asked : (lock : Lock) (word : ℕ) (j : Judgement) → IsAnswerTo {Effect = Effect} (act_is.Request lock) (unless_denied (Requested word) j)
+  told_asked : (lock : Lock) (word : ℕ) (j : Judgement) → IsAnswerTo {Effect = Effect} (act_is.Request lock) (unless_denied (Asked word) j)
   told_asked lock word judgement.Free = tt
   told_asked lock word (judgement.Held holder) = tt
   told_asked lock word (judgement.Preferred other) = tt
 
-  told_taken : (lock : Lock) (expected word : ℕ) (b : Bool) (j : Judgement) → IsAnswerTo {Effect = Effect} (act_is.Seize lock expected) (if b then Seized else unless_denied (Changed word) j)
+  told_taken : (lock : Lock) (expected word : ℕ) (b : Bool) (j : Judgement) → IsAnswerTo {Effect = Effect} (act_is.Seize lock expected) (if b then Seized else unless_denied (Again word) j)
   told_taken lock expected word true j = tt
   told_taken lock expected word false judgement.Free = tt
   told_taken lock expected word false (judgement.Held holder) = tt
@@ -120,17 +120,17 @@ module _ (O : System) where
     abbrev pub words_after : Act Lock Effect → List ℕ
     words_after step = slice_set words (place O step) (becomes O k step (found_by step))
 
-    exact_asked : (lock : Lock) (word : ℕ) (j : Judgement) (after : List ℕ) → word_at O after lock ≡ word → IsExact after (changed O a (Requests lock) (unless_denied (Requested word) j)).phase
+    exact_asked : (lock : Lock) (word : ℕ) (j : Judgement) (after : List ℕ) → word_at O after lock ≡ word → IsExact after (changed O a (Requests lock) (unless_denied (Asked word) j)).phase
     exact_asked lock word judgement.Free after e = e
     exact_asked lock word (judgement.Held holder) after e = tt
     exact_asked lock word (judgement.Preferred other) after e = tt
 
-    exact_again : (lock : Lock) (expected word : ℕ) (j : Judgement) (after : List ℕ) → word_at O after lock ≡ word → IsExact after (changed O a (SeizesNext lock expected) (unless_denied (Changed word) j)).phase
+    exact_again : (lock : Lock) (expected word : ℕ) (j : Judgement) (after : List ℕ) → word_at O after lock ≡ word → IsExact after (changed O a (SeizesNext lock expected) (unless_denied (Again word) j)).phase
     exact_again lock expected word judgement.Free after e = e
     exact_again lock expected word (judgement.Held holder) after e = tt
     exact_again lock expected word (judgement.Preferred other) after e = tt
 
-    exact_taken : (lock : Lock) (expected word taken : ℕ) (b : Bool) (j : Judgement) → O.lock_word lock < length words → IsExact (slice_set words (O.lock_word lock) (if b then taken else word)) (changed O a (SeizesNext lock expected) (if b then Seized else unless_denied (Changed word) j)).phase
+    exact_taken : (lock : Lock) (expected word taken : ℕ) (b : Bool) (j : Judgement) → O.lock_word lock < length words → IsExact (slice_set words (O.lock_word lock) (if b then taken else word)) (changed O a (SeizesNext lock expected) (if b then Seized else unless_denied (Again word) j)).phase
     exact_taken lock expected word taken true j there = let b : AttemptOf O = record a { held = a.held ++ lock ∷ [] } in exact_on (slice_set words (O.lock_word lock) taken) b (walk_result O b)
     exact_taken lock expected word taken false j there = exact_again lock expected word j (slice_set words (O.lock_word lock) word) (index_same words (O.lock_word lock) word there)
 

@@ -5,7 +5,7 @@ use Rattle.turns.specs.System.{System}
 use Rattle.turns.specs.Attempt.{AttemptOf, act, act_in, change, changed, closing_act, free_act, giving_back, operated, rest_of, walks_on}
 use Rattle.turns.specs.declared.act.Act.TheVariants.{Free}
 use Rattle.turns.specs.declared.answer.Answer.{Answer}
-use Rattle.turns.specs.declared.answer.Answer.TheVariants.{Requested, Seized, Held, Preferred, Changed, Value, Turn, Done}
+use Rattle.turns.specs.declared.answer.Answer.TheVariants.{Asked, Seized, Held, Preferred, Again, Value, Turn, Done}
 use Rattle.turns.specs.declared.phase.Phase.{Phase}
 use Rattle.turns.specs.declared.phase.Phase.TheVariants.{Requests, Seizes, Tests, Turns, Withdraws, GivesBack, Operates}
 use Rattle.turns.proofs.Lists.{in_front}
@@ -55,7 +55,7 @@ module _ (O : System) where
   -- whatever the answer in whatever phase
   kept_in : (a : AttemptOf O) (phase : Phase Lock ℕ) (answer : Answer) (lock : Lock)
       → IsIn lock a.held → act_in phase a ≢ Free lock → IsIn lock (changed O a phase answer).held
-  kept_in a (Requests asked) (Requested word) lock within other = within
+  kept_in a (Requests asked) (Asked word) lock within other = within
   kept_in a (Requests asked) (Held holder) lock within other = within
   kept_in a (Requests asked) (Preferred actor) lock within other = within
   kept_in a (Seizes asked expected) Seized lock within other =
@@ -63,7 +63,7 @@ module _ (O : System) where
       kept_on (record a { held = a.held ++ asked ∷ [] }) lock more
   kept_in a (Seizes asked expected) (Held holder) lock within other = within
   kept_in a (Seizes asked expected) (Preferred actor) lock within other = within
-  kept_in a (Seizes asked expected) (Changed word) lock within other = within
+  kept_in a (Seizes asked expected) (Again word) lock within other = within
   kept_in a (Tests word) (Value value) lock within other =
       let readings = a.readings ++ record { word = word; value = value } ∷ [] in
       kept_on (record a { readings = readings }) lock within

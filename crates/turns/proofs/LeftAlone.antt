@@ -15,7 +15,7 @@ use Rattle.turns.specs.Law.{Holds, HasRequested, Lawful, holder_at, word_at}
 use Rattle.turns.specs.Runs.{after_move, stepped_at, Steps}
 use Rattle.turns.specs.Bounds.{IsAside, IsSteady}
 use Rattle.turns.specs.declared.answer.Answer.{Answer}
-use Rattle.turns.specs.declared.answer.Answer.TheVariants.{Requested, Seized, Changed}
+use Rattle.turns.specs.declared.answer.Answer.TheVariants.{Asked, Seized, Again}
 use Rattle.turns.specs.declared.judgement.Judgement.{Judgement}
 use Rattle.turns.specs.declared.judgement.Judgement.TheVariants as judgement
 use Rattle.turns.specs.declared.phase.Phase.{Phase}
@@ -96,9 +96,9 @@ module _ (O : System) (is : IsSystem O) where
     answer_in phase = answer_to O k (act_in phase a) (slice_index w.words (place O (act_in phase a)))
 
     steady_in : (phase : Phase Lock ℕ) → IsValidIn O a phase → AreReadWords (read_in phase a.readings) → IsExact O w.words phase → IsSteady (answer_in phase)
-    steady_in (Requests lock) valid read exact = subst (λ (j : Judgement). IsSteady (unless_denied (Requested (with_request sharing k (word_at O w.words lock))) j)) (sym (free_asked read lock valid)) tt
+    steady_in (Requests lock) valid read exact = subst (λ (j : Judgement). IsSteady (unless_denied (Asked (with_request sharing k (word_at O w.words lock))) j)) (sym (free_asked read lock valid)) tt
     steady_in (SeizesNext lock expected) valid read exact =
-        subst (λ (b : Bool). IsSteady (if b then Seized else unless_denied (Changed (word_at O w.words lock)) (sharing.judged k (word_at O w.words lock)))) (sym (eq-eqb (word_at O w.words lock) expected exact)) tt
+        subst (λ (b : Bool). IsSteady (if b then Seized else unless_denied (Again (word_at O w.words lock)) (sharing.judged k (word_at O w.words lock)))) (sym (eq-eqb (word_at O w.words lock) expected exact)) tt
     steady_in (TestsNext word) valid read exact = tt
     steady_in Turns valid read exact = tt
     steady_in (Withdraws lock) valid read exact = tt

@@ -9,7 +9,7 @@ use Rattle.turns.specs.System.{System, IsSystem}
 use Rattle.turns.specs.Attempt.{AttemptOf, IsValid, change, changed, giving_back, forgotten, effects_left_in, denied, request_in, restarted, unless_denied, walks_on}
 use Rattle.turns.specs.World.{World, ActorOf, RecordOf, Does, effects_left_of, moved}
 use Rattle.turns.specs.Law.{HasRequested, IsRead, IsSound, Lawful, word_at}
-use Rattle.turns.specs.declared.answer.Answer.TheVariants.{Requested, Seized, Changed, Done}
+use Rattle.turns.specs.declared.answer.Answer.TheVariants.{Asked, Seized, Again, Done}
 use Rattle.turns.specs.declared.judgement.Judgement.{Judgement}
 use Rattle.turns.specs.declared.judgement.Judgement.TheVariants.{Free, Held, Preferred}
 use Rattle.turns.specs.declared.phase.Phase.{Phase}
@@ -34,12 +34,12 @@ module _ (O : System) where
   open O use {Lock, sharing}
 
   -- an answer to a request, and to the seizing of a lock whose word was another
-  asked_on : (a : AttemptOf O) (lock : Lock) (word : ℕ) (j : Judgement) → on_judgement O a lock word j ≡ changed O a (Requests lock) (unless_denied (Requested word) j)
+  asked_on : (a : AttemptOf O) (lock : Lock) (word : ℕ) (j : Judgement) → on_judgement O a lock word j ≡ changed O a (Requests lock) (unless_denied (Asked word) j)
   asked_on a lock word Free = refl
   asked_on a lock word (Held other) = refl
   asked_on a lock word (Preferred other) = refl
 
-  again_on : (a : AttemptOf O) (lock : Lock) (expected word : ℕ) (j : Judgement) → on_judgement O a lock word j ≡ changed O a (Seizes lock expected) (unless_denied (Changed word) j)
+  again_on : (a : AttemptOf O) (lock : Lock) (expected word : ℕ) (j : Judgement) → on_judgement O a lock word j ≡ changed O a (Seizes lock expected) (unless_denied (Again word) j)
   again_on a lock expected word Free = refl
   again_on a lock expected word (Held other) = refl
   again_on a lock expected word (Preferred other) = refl
@@ -118,7 +118,7 @@ module _ (O : System) (system : IsSystem O) (w : World O) (law : Lawful O w) (k 
 
     -- it seizes a lock whose word is as expected, or finds another word
     seizes_in : (lock : Lock) (expected : ℕ) → get_elem? w.actors k ≡ some (Does number (attempt O (Seizes lock expected) job readings held reply effects)) → (t : Bool) → (word_at O w.words lock == expected) ≡ t →
-        Lawful O (renewed O w (slice_set w.words (lock_word lock) (if t then sharing.taken k expected else word_at O w.words lock)) w.order k number (change O (attempt O (Seizes lock expected) job readings held reply effects) (if t then Seized else unless_denied (Changed (word_at O w.words lock)) (sharing.judged k (word_at O w.words lock)))))
+        Lawful O (renewed O w (slice_set w.words (lock_word lock) (if t then sharing.taken k expected else word_at O w.words lock)) w.order k number (change O (attempt O (Seizes lock expected) job readings held reply effects) (if t then Seized else unless_denied (Again (word_at O w.words lock)) (sharing.judged k (word_at O w.words lock)))))
     seizes_in lock expected there true e =
         let a = attempt O (Seizes lock expected) job readings held reply effects in
         let s = law.sound k number a there in
@@ -138,7 +138,7 @@ module _ (O : System) (system : IsSystem O) (w : World O) (law : Lawful O w) (k 
         let few = few_actors O w law k (Does number a) there in
         let shared = law.shared lock s.fits.0 in
         let asks : HasRequested O w.actors k lock = record { number = number; attempt = a; does = there; requests = refl } in
-        idle_word (lock_word lock) (change O a (unless_denied (Changed found) j)) (subst (λ (new : AttemptOf O). Lawful O (renewed O w w.words w.order k number new)) (again_on O a lock expected found j)
+        idle_word (lock_word lock) (change O a (unless_denied (Again found) j)) (subst (λ (new : AttemptOf O). Lawful O (renewed O w w.words w.order k number new)) (again_on O a lock expected found j)
         (rests a there (on_judgement O a lock found j) (judged_left O a lock found j) (judged_held O a lock found j) (judged_request O a lock found j)
         (judged_sound O w k number a lock found j (has a there) s.read s.valid s.fits.0 shared.is_word (λ shows. (shared.requested k few).shown shows asks) refl)))
 

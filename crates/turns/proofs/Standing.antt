@@ -5,7 +5,7 @@ use Rattle.turns.specs.Script.{Script, Ends, TestThen, SeizeThen, is_held, value
 use Rattle.turns.specs.System.{System, IsSystem, DecidesUnder}
 use Rattle.turns.specs.Attempt.{AttemptOf, IsValid, IsValidIn, HasTurned, begin, change, changed, walk_result, giving_back, goes_on, operated, restarted, restarted_in, read_in, rest_of, seen_of, forgotten}
 use Rattle.turns.specs.declared.answer.Answer.{Answer}
-use Rattle.turns.specs.declared.answer.Answer.TheVariants.{Requested, Seized, Held, Preferred, Changed, Value, Turn as TurnNumber, Done}
+use Rattle.turns.specs.declared.answer.Answer.TheVariants.{Asked, Seized, Held, Preferred, Again, Value, Turn as TurnNumber, Done}
 use Rattle.turns.specs.declared.phase.Phase.{Phase}
 use Rattle.turns.specs.declared.phase.Phase.TheVariants.{Requests, Seizes as SeizesNext, Tests as TestsNext, Turns, Withdraws, GivesBack, Operates}
 use Rattle.turns.specs.declared.wanted.Wanted.{Wanted}
@@ -55,13 +55,13 @@ module _ (O : System) (is : IsSystem O) where
   })
 
   changes_in : (a : AttemptOf O) (phase : Phase Lock ℕ) (answer : Answer) → O.IsJob a.job → AreReadWords (read_in phase a.readings) → a.phase ≡ phase → IsValid O a → IsValidIn O a phase → IsValid O (changed O a phase answer)
-  changes_in a (Requests lock) (Requested word) right read at all valid = valid
+  changes_in a (Requests lock) (Asked word) right read at all valid = valid
   changes_in a (Requests lock) (Held holder) right read at all valid = wanted_lock a lock right read valid
   changes_in a (Requests lock) (Preferred other) right read at all valid = wanted_lock a lock right read valid
   changes_in a (SeizesNext lock expected) Seized right read at all valid = stands_on (record a { held = a.held ++ lock ∷ [] }) (walk_result O (record a { held = a.held ++ lock ∷ [] })) refl
   changes_in a (SeizesNext lock expected) (Held holder) right read at all valid = wanted_lock a lock right read valid
   changes_in a (SeizesNext lock expected) (Preferred other) right read at all valid = wanted_lock a lock right read valid
-  changes_in a (SeizesNext lock expected) (Changed word) right read at all valid = valid
+  changes_in a (SeizesNext lock expected) (Again word) right read at all valid = valid
   changes_in a (TestsNext word) (Value value) right read at all valid =
       let more : AttemptOf O = record a { readings = a.readings ++ record { word = word; value = value } ∷ [] } in
       stands_on more (walk_result O more) refl

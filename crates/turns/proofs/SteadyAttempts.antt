@@ -9,7 +9,7 @@ use Rattle.turns.specs.World.{World}
 use Rattle.turns.specs.Law.{FitsIn, IsSound}
 use Rattle.turns.specs.Bounds.{AreBounded, AreSteady, AllEndsHave, IsSteady}
 use Rattle.turns.specs.declared.answer.Answer.{Answer}
-use Rattle.turns.specs.declared.answer.Answer.TheVariants.{Requested, Seized, Held, Preferred, Changed, Value, Turn as TurnNumber, Done}
+use Rattle.turns.specs.declared.answer.Answer.TheVariants.{Asked, Seized, Held, Preferred, Again, Value, Turn as TurnNumber, Done}
 use Rattle.turns.specs.declared.phase.Phase.{Phase}
 use Rattle.turns.specs.declared.phase.Phase.TheVariants.{Requests, Seizes as SeizesNext, Tests as TestsNext, Turns, Withdraws, GivesBack, Operates}
 use Rattle.turns.specs.declared.reading.Reading.{Reading}
@@ -72,13 +72,13 @@ module _ (O : System) where
 
   -- an attempt's job stays
   changed_job : (a : AttemptOf O) (phase : Phase O.Lock ℕ) (answer : Answer) → (changed O a phase answer).job ≡ a.job
-  changed_job a (Requests lock) (Requested word) = refl
+  changed_job a (Requests lock) (Asked word) = refl
   changed_job a (Requests lock) (Held holder) = refl
   changed_job a (Requests lock) (Preferred other) = refl
   changed_job a (SeizesNext lock expected) Seized = let b : AttemptOf O = record a { held = a.held ++ lock ∷ [] } in goes_on_job b (walk_result O b)
   changed_job a (SeizesNext lock expected) (Held holder) = refl
   changed_job a (SeizesNext lock expected) (Preferred other) = refl
-  changed_job a (SeizesNext lock expected) (Changed word) = refl
+  changed_job a (SeizesNext lock expected) (Again word) = refl
   changed_job a (TestsNext word) (Value value) = let b : AttemptOf O = record a { readings = a.readings ++ record { word = word; value = value } ∷ [] } in goes_on_job b (walk_result O b)
   changed_job a Turns (TurnNumber number) = refl
   changed_job a (Withdraws lock) Done = freed_job a a.held
@@ -198,7 +198,7 @@ module _ (O : System) (is : IsSystem O) (tests seizings effects : ℕ) (bounded 
 
   -- a steady answer to an attempt's step leaves one step less
   pub made_in : (enough : ℕ) (a : AttemptOf O) (phase : Phase Lock ℕ) (answer : Answer) → O.IsJob a.job → a.phase ≡ phase → IsValidIn O a phase → WithinIn enough a phase → IsAnswerTo (act_in phase a) answer → IsSteady answer → HasMadeOne enough (changed O a phase answer)
-  made_in enough a (Requests lock) (Requested word) right at valid room fits steady = record {
+  made_in enough a (Requests lock) (Asked word) right at valid room fits steady = record {
     less = enough - 1;
     one = omega (arith, room.fits);
     within = record { more_tests = room.more_tests; more_seizings = room.more_seizings; read = room.read; asks = room.asks; fits = omega (arith, room.fits) };
@@ -212,7 +212,7 @@ module _ (O : System) (is : IsSystem O) (tests seizings effects : ℕ) (bounded 
       record { less = enough - 1; one = omega (arith, after.fits); within = within_on (enough - 1) b (walk_result O b) right refl after }
   made_in enough a (SeizesNext lock expected) (Held holder) right at valid room fits steady = absurd steady
   made_in enough a (SeizesNext lock expected) (Preferred other) right at valid room fits steady = absurd steady
-  made_in enough a (SeizesNext lock expected) (Changed word) right at valid room fits steady = absurd steady
+  made_in enough a (SeizesNext lock expected) (Again word) right at valid room fits steady = absurd steady
   made_in enough a (SeizesNext lock expected) answer right at valid room fits steady = absurd fits
   made_in enough a (TestsNext word) (Value value) right at valid room fits steady =
       let reading : Reading ℕ = record { word = word; value = value } in

@@ -6,7 +6,7 @@ use Rattle.turns.specs.System.{System}
 use Rattle.turns.specs.declared.act.Act.{Act}
 use Rattle.turns.specs.declared.act.Act.TheVariants.{Finished, Request, Seize, Withdraw, Free, Test, Turn, Make}
 use Rattle.turns.specs.declared.answer.Answer.{Answer}
-use Rattle.turns.specs.declared.answer.Answer.TheVariants.{Requested, Seized, Held, Preferred, Changed, Value, Turn as TurnNumber, Done}
+use Rattle.turns.specs.declared.answer.Answer.TheVariants.{Asked, Seized, Held, Preferred, Again, Value, Turn as TurnNumber, Done}
 use Rattle.turns.specs.declared.judgement.Judgement.{Judgement}
 use Rattle.turns.specs.declared.judgement.Judgement.TheVariants as judgement
 use Rattle.turns.specs.declared.phase.Phase.{Phase}
@@ -166,13 +166,13 @@ unless_denied answer (judgement.Preferred other) = Preferred other
 
 -- the answer is of the step's kind, and the value of a tested word fits 64 bits
 abbrev pub IsAnswerTo : {Lock Effect : Type 0} → Act Lock Effect → Answer → Type 0
-IsAnswerTo (Request lock) (Requested word) = ⊤
+IsAnswerTo (Request lock) (Asked word) = ⊤
 IsAnswerTo (Request lock) (Held holder) = ⊤
 IsAnswerTo (Request lock) (Preferred other) = ⊤
 IsAnswerTo (Seize lock expected) Seized = ⊤
 IsAnswerTo (Seize lock expected) (Held holder) = ⊤
 IsAnswerTo (Seize lock expected) (Preferred other) = ⊤
-IsAnswerTo (Seize lock expected) (Changed word) = ⊤
+IsAnswerTo (Seize lock expected) (Again word) = ⊤
 IsAnswerTo (Test word) (Value value) = value < 2 ^ 64
 IsAnswerTo Turn (TurnNumber number) = ⊤
 IsAnswerTo (Withdraw lock) Done = ⊤
@@ -210,13 +210,13 @@ module _ (O : System) where
 
   -- the attempt changed by an answer in a phase; an answer of another kind changes nothing
   abbrev pub changed : AttemptOf → Phase Lock ℕ → Answer → AttemptOf
-  changed a (Requests lock) (Requested word) = record a { phase = Seizes lock word }
+  changed a (Requests lock) (Asked word) = record a { phase = Seizes lock word }
   changed a (Requests lock) (Held holder) = denied a lock
   changed a (Requests lock) (Preferred other) = denied a lock
   changed a (Seizes lock expected) Seized = walks_on (record a { held = a.held ++ lock ∷ [] })
   changed a (Seizes lock expected) (Held holder) = denied a lock
   changed a (Seizes lock expected) (Preferred other) = denied a lock
-  changed a (Seizes lock expected) (Changed word) = record a { phase = Seizes lock word }
+  changed a (Seizes lock expected) (Again word) = record a { phase = Seizes lock word }
   changed a (Tests word) (Value value) =
       walks_on (record a { readings = a.readings ++ record { word = word; value = value } ∷ [] })
   changed a Turns (TurnNumber number) = record a { phase = Operates number }
@@ -233,10 +233,10 @@ module _ (O : System) where
   abbrev pub answer_to : ℕ → Act Lock Effect → ℕ → Answer
   answer_to k Finished found = Done
   answer_to k (Request lock) found =
-      unless_denied (Requested (with_request sharing k found))
+      unless_denied (Asked (with_request sharing k found))
       (sharing.judged k (with_request sharing k found))
   answer_to k (Seize lock expected) found =
-      if found == expected then Seized else unless_denied (Changed found) (sharing.judged k found)
+      if found == expected then Seized else unless_denied (Again found) (sharing.judged k found)
   answer_to k (Withdraw lock) found = Done
   answer_to k (Free lock) found = Done
   answer_to k (Test word) found = Value found

@@ -5,7 +5,7 @@ use Rattle.turns.specs.Attempt.{AttemptOf, IsAnswerTo, act, change, request_in}
 use Rattle.turns.specs.World.{World, ActorOf, Idle, Does}
 use Rattle.turns.specs.Runs.{after_move, Steps}
 use Rattle.turns.specs.declared.answer.Answer.{Answer}
-use Rattle.turns.specs.declared.answer.Answer.TheVariants.{Requested, Seized, Held, Preferred, Changed, Value, Turn, Done}
+use Rattle.turns.specs.declared.answer.Answer.TheVariants.{Asked, Seized, Held, Preferred, Again, Value, Turn, Done}
 
 -- what a script ends with has a property, whatever values of 64 bits it reads
 unfoldable pub AllEndsHave : {Lock A : Type 0} → (A → Type 0) → Script Lock A → Type 0
@@ -16,11 +16,11 @@ AllEndsHave Has (SeizeThen lock script) = AllEndsHave Has script
 
 -- an answer by which an attempt is neither denied a lock nor has to retry a seize
 abbrev pub IsSteady : Answer → Type 0
-IsSteady (Requested word) = ⊤
+IsSteady (Asked word) = ⊤
 IsSteady Seized = ⊤
 IsSteady (Held holder) = ⊥
 IsSteady (Preferred other) = ⊥
-IsSteady (Changed word) = ⊥
+IsSteady (Again word) = ⊥
 IsSteady (Value value) = ⊤
 IsSteady (Turn number) = ⊤
 IsSteady Done = ⊤

@@ -11,7 +11,7 @@ use crate::lock_word::asked_by;
 #[derive(Clone, Copy, Debug, PartialEq, Eq)]
 pub enum Answer {
     /// The request is made, and this is the lock's word with it.
-    Requested(u64),
+    Asked(u64),
     /// The lock is seized.
     Seized,
     /// The lock is denied: this actor holds it.
@@ -20,7 +20,7 @@ pub enum Answer {
     Preferred(u32),
     /// The lock isn't seized: its word was not as expected but this one, by which it may still be
     /// seized.
-    Changed(u64),
+    Again(u64),
     /// The value of the tested word.
     Value(u64),
     /// The number of the turn, as found in the turn word.
@@ -45,11 +45,11 @@ impl Answer {
     pub fn to_request(actor: u32, found: u64) -> Self
         requires { actor < 48 }
         ensures { result ≡ unless_denied_by
-            (Answer.Requested (with_request preferring actor found))
+            (Answer.Asked (with_request preferring actor found))
             (preferring.judged actor (with_request preferring actor found)) }
     {
         let word = asked_by(actor, found);
-        Answer::Requested(word).unless_denied(Judgement::of(actor, word))
+        Answer::Asked(word).unless_denied(Judgement::of(actor, word))
     }
 
     /// The answer to an actor's attempt to seize a lock: it expected one number in the lock's
@@ -58,12 +58,12 @@ impl Answer {
         requires { actor < 48 }
         ensures { result
             ≡ (if found == expected then Answer.Seized
-            else unless_denied_by (Answer.Changed found) (preferring.judged actor found)) }
+            else unless_denied_by (Answer.Again found) (preferring.judged actor found)) }
     {
         if found == expected {
             Answer::Seized
         } else {
-            Answer::Changed(found).unless_denied(Judgement::of(actor, found))
+            Answer::Again(found).unless_denied(Judgement::of(actor, found))
         }
     }
 }

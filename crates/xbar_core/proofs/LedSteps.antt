@@ -42,11 +42,11 @@ module _ (plan : Tables) (k : ℕ) where
 
   -- and only a turn is answered by one
   no_record : (number : ℕ) (a : Attempt) (one : Act) (answer_at : Answer) → IsNoTurn (office plan) one → IsAnswerTo one answer_at → added_record k number a answer_at ≡ []
-  no_record number a one (answer.Requested word) goes answers = refl
+  no_record number a one (answer.Asked word) goes answers = refl
   no_record number a one answer.Seized goes answers = refl
   no_record number a one (answer.Held holder) goes answers = refl
   no_record number a one (answer.Preferred other) goes answers = refl
-  no_record number a one (answer.Changed word) goes answers = refl
+  no_record number a one (answer.Again word) goes answers = refl
   no_record number a one (answer.Value value) goes answers = refl
   no_record number a one answer.Done goes answers = refl
   no_record number a Finished (answer.Turn turn) goes answers = absurd goes

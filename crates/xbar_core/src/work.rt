@@ -174,9 +174,9 @@ impl Work {
                     None => Event::Moved,
                 }
             }
-            Answer::Requested(_)
+            Answer::Asked(_)
             | Answer::Seized
-            | Answer::Changed(_)
+            | Answer::Again(_)
             | Answer::Value(_)
             | Answer::Turn(_) => Event::Moved,
         }

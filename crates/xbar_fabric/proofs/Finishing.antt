@@ -5,7 +5,7 @@ use Rattle.turns.specs.Attempt.{HasDecided, act, act_in, answer_to, changed, clo
 use Rattle.turns.specs.Runs.{is_finished}
 use Rattle.turns.specs.Script.{Script, Ends, TestThen, SeizeThen, first_wanted, is_held, left, left_of_seizing, walk}
 use Rattle.turns.specs.Seen.{Seen}
-use Rattle.turns.specs.declared.answer.Answer.TheVariants.{Requested, Seized, Changed, Done}
+use Rattle.turns.specs.declared.answer.Answer.TheVariants.{Asked, Seized, Again, Done}
 use Rattle.turns.specs.declared.judgement.Judgement.{Judgement}
 use Rattle.turns.specs.declared.judgement.Judgement.TheVariants as judgement
 use Rattle.turns.specs.declared.phase.Phase.TheVariants.{Requests, Seizes, Tests, Turns, Withdraws, GivesBack, Operates}
@@ -42,12 +42,12 @@ module _ (plan : Tables) where
   walked_busy : (a : Attempt) → is_finished (act (walks_on (office plan) a)) ≡ true → ⊥
   walked_busy a rests = goes_on_busy a (walk_result (office plan) a) rests
 
-  asked_busy : (a : Attempt) (conn : Conn) (word : ℕ) (j : Judgement) → is_finished (act (changed (office plan) a (Requests conn) (unless_denied (Requested word) j))) ≡ true → ⊥
+  asked_busy : (a : Attempt) (conn : Conn) (word : ℕ) (j : Judgement) → is_finished (act (changed (office plan) a (Requests conn) (unless_denied (Asked word) j))) ≡ true → ⊥
   asked_busy a conn word judgement.Free rests = cc
   asked_busy a conn word (judgement.Held holder) rests = cc
   asked_busy a conn word (judgement.Preferred other) rests = cc
 
-  seized_busy : (a : Attempt) (conn : Conn) (expected word : ℕ) (same : Bool) (j : Judgement) → is_finished (act (changed (office plan) a (Seizes conn expected) (if same then Seized else unless_denied (Changed word) j))) ≡ true → ⊥
+  seized_busy : (a : Attempt) (conn : Conn) (expected word : ℕ) (same : Bool) (j : Judgement) → is_finished (act (changed (office plan) a (Seizes conn expected) (if same then Seized else unless_denied (Again word) j))) ≡ true → ⊥
   seized_busy a conn expected word true j rests = walked_busy (record a { held = a.held ++ conn ∷ [] }) rests
   seized_busy a conn expected word false judgement.Free rests = cc
   seized_busy a conn expected word false (judgement.Held holder) rests = cc

@@ -156,9 +156,9 @@ module _ (k number : ℕ) (after : Attempt) (r : Record) where
   own_at_end : (a : Attempt) (reported : Answer) → event_of k number a after reported ≡ event.Finished r → own_record k number after ≡ r ∷ []
   own_at_end a (answer.Held holder) is = absurd (by_refusal holder _ is)
   own_at_end a (answer.Preferred other) is = absurd cc
-  own_at_end a (answer.Requested word) is = absurd cc
+  own_at_end a (answer.Asked word) is = absurd cc
   own_at_end a answer.Seized is = absurd cc
-  own_at_end a (answer.Changed word) is = absurd cc
+  own_at_end a (answer.Again word) is = absurd cc
   own_at_end a (answer.Value value) is = absurd cc
   own_at_end a (answer.Turn turn) is = absurd cc
   own_at_end a answer.Done is = by_rest (is_finished (act after)) is

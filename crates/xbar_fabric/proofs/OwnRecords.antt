@@ -4,7 +4,7 @@ use Rattle.std.specs.Prelude.{◌==◌, Option, Some, None, Result, Ok, Err, if�
 use Rattle.std.proofs.lemmas.Bool.{eq-eqb}
 use Rattle.turns.specs.Attempt.{act, act_in, answer_to, change, changed, giving_back, goes_on, operated, rest_of, turn_in, unless_denied}
 use Rattle.turns.specs.declared.answer.Answer.{Answer}
-use Rattle.turns.specs.declared.answer.Answer.TheVariants.{Requested, Seized, Held, Preferred, Changed, Value, Turn, Done}
+use Rattle.turns.specs.declared.answer.Answer.TheVariants.{Asked, Seized, Held, Preferred, Again, Value, Turn, Done}
 use Rattle.turns.specs.declared.judgement.Judgement.{Judgement}
 use Rattle.turns.specs.declared.judgement.Judgement.TheVariants as judgement
 use Rattle.turns.specs.declared.phase.Phase.TheVariants.{Requests, Seizes, Tests, Turns, Withdraws, GivesBack, Operates}
@@ -42,9 +42,9 @@ pub own_added : (k number : ℕ) (a : Attempt) (answer : Answer) → own k (adde
 own_added k number a (Turn turn) = own_of turn k number a a.reply refl
 own_added k number a (Held holder) = refl
 own_added k number a (Preferred other) = refl
-own_added k number a (Requested word) = refl
+own_added k number a (Asked word) = refl
 own_added k number a Seized = refl
-own_added k number a (Changed word) = refl
+own_added k number a (Again word) = refl
 own_added k number a (Value value) = refl
 own_added k number a Done = refl
 
@@ -67,12 +67,12 @@ module _ (plan : Tables) (k number : ℕ) where
   freed_bare a [] = refl
   freed_bare a (conn ∷ held) = refl
 
-  asked_grows : (a : Attempt) (conn : Conn) (word : ℕ) (j : Judgement) → Grows a (Requests conn) (unless_denied (Requested word) j)
+  asked_grows : (a : Attempt) (conn : Conn) (word : ℕ) (j : Judgement) → Grows a (Requests conn) (unless_denied (Asked word) j)
   asked_grows a conn word judgement.Free = refl
   asked_grows a conn word (judgement.Held holder) = refl
   asked_grows a conn word (judgement.Preferred other) = refl
 
-  seized_grows : (a : Attempt) (conn : Conn) (expected word : ℕ) (same : Bool) (j : Judgement) → Grows a (Seizes conn expected) (if same then Seized else unless_denied (Changed word) j)
+  seized_grows : (a : Attempt) (conn : Conn) (expected word : ℕ) (same : Bool) (j : Judgement) → Grows a (Seizes conn expected) (if same then Seized else unless_denied (Again word) j)
   seized_grows a conn expected word true j = goes_bare (record a { held = a.held ++ conn ∷ [] }) _
   seized_grows a conn expected word false judgement.Free = refl
   seized_grows a conn expected word false (judgement.Held holder) = refl
@@ -113,13 +113,13 @@ module _ (plan : Tables) (k number : ℕ) where
 
   -- whatever the answer, an attempt stays at its job
   pub changed_job : (a : Attempt) (phase : Phase) (answer : Answer) → (changed (office plan) a phase answer).job ≡ a.job
-  changed_job a (Requests conn) (Requested word) = refl
+  changed_job a (Requests conn) (Asked word) = refl
   changed_job a (Requests conn) (Held holder) = refl
   changed_job a (Requests conn) (Preferred other) = refl
   changed_job a (Seizes conn expected) Seized = goes_job (record a { held = a.held ++ conn ∷ [] }) _
   changed_job a (Seizes conn expected) (Held holder) = refl
   changed_job a (Seizes conn expected) (Preferred other) = refl
-  changed_job a (Seizes conn expected) (Changed word) = refl
+  changed_job a (Seizes conn expected) (Again word) = refl
   changed_job a (Tests word) (Value value) = goes_job (record a { readings = a.readings ++ record { word = word; value = value } ∷ [] }) _
   changed_job a Turns (Turn number) = refl
   changed_job a (Withdraws conn) Done = freed_job a a.held

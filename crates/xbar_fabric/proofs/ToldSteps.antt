@@ -11,7 +11,7 @@ use Rattle.turns.specs.World as worlds
 use Rattle.turns.specs.World.{Idle, Does, added_in}
 use Rattle.turns.proofs.Runs.{rest_is}
 use Rattle.turns.specs.declared.answer.Answer.{Answer}
-use Rattle.turns.specs.declared.answer.Answer.TheVariants.{Requested, Seized, Held, Preferred, Changed, Value, Turn, Done}
+use Rattle.turns.specs.declared.answer.Answer.TheVariants.{Asked, Seized, Held, Preferred, Again, Value, Turn, Done}
 use Rattle.turns.specs.declared.phase.Phase.TheVariants.{Turns, Operates}
 use Rattle.desks.specs.Desks as desks
 use Rattle.desks.specs.Kept.{number_found}
@@ -61,9 +61,9 @@ on_goes k number after r false is = absurd cc
 pub finished_rests : (k number : ℕ) (a after : Attempt) (r : Record) (answer : Answer) → event_of k number a after answer ≡ event.Finished r → is_finished (act after) ≡ true
 finished_rests k number a after r (Held holder) is = absurd (refusal_goes holder _ r is)
 finished_rests k number a after r (Preferred other) is = absurd cc
-finished_rests k number a after r (Requested word) is = absurd cc
+finished_rests k number a after r (Asked word) is = absurd cc
 finished_rests k number a after r Seized is = absurd cc
-finished_rests k number a after r (Changed word) is = absurd cc
+finished_rests k number a after r (Again word) is = absurd cc
 finished_rests k number a after r (Value value) is = absurd cc
 finished_rests k number a after r (Turn turn) is = absurd cc
 finished_rests k number a after r Done is = on_goes k number after r (is_finished (act after)) is

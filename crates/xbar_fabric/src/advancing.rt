@@ -32,9 +32,9 @@ fn moved(asked: Option<Conn>, answer: Answer) -> Event
     match answer {
         Answer::Held(holder) => Event::of_refusal(asked, holder),
         Answer::Preferred(other) => Event::Preferred(other),
-        Answer::Requested(_)
+        Answer::Asked(_)
         | Answer::Seized
-        | Answer::Changed(_)
+        | Answer::Again(_)
         | Answer::Value(_)
         | Answer::Turn(_)
         | Answer::Done => Event::Moved,

@@ -4,7 +4,7 @@ use Rattle.turns.specs.Attempt.{IsAnswerTo, act, begin_with, change, restarted}
 use Rattle.turns.specs.declared.act.Act.{Act}
 use Rattle.turns.specs.declared.act.Act.TheVariants.{Test}
 use Rattle.turns.specs.declared.answer.Answer.{Answer}
-use Rattle.turns.specs.declared.answer.Answer.TheVariants.{Requested, Seized, Held, Preferred, Changed, Value, Turn, Done}
+use Rattle.turns.specs.declared.answer.Answer.TheVariants.{Asked, Seized, Held, Preferred, Again, Value, Turn, Done}
 use Rattle.attempts.specs.WalkOnWords.{LeadsTo, Moment, stepped, answer_at}
 use Rattle.attempts.specs.Applied.{FitsValue}
 use Rattle.attempts.proofs.Places.{place_begin, place_change, place_restarted}
@@ -24,11 +24,11 @@ use Rattle.xbar_jobs.proofs.OfficeSystem.{office_is}
 pub answer_fits : {Lock Effect : Type 0} (act : Act Lock Effect) (answer : Answer) → IsAnswerTo act answer → FitsValue answer
 answer_fits (Test word) (Value value) fits = fits
 answer_fits act (Value value) fits = absurd fits
-answer_fits act (Requested word) fits = tt
+answer_fits act (Asked word) fits = tt
 answer_fits act Seized fits = tt
 answer_fits act (Held holder) fits = tt
 answer_fits act (Preferred other) fits = tt
-answer_fits act (Changed word) fits = tt
+answer_fits act (Again word) fits = tt
 answer_fits act (Turn number) fits = tt
 answer_fits act Done fits = tt
 

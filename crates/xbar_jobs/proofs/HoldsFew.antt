@@ -5,7 +5,7 @@ use Rattle.turns.specs.Seen.{AreReadWords}
 use Rattle.turns.specs.Attempt.{IsValidIn, begin_with, change, changed, walk_result, forgotten, giving_back, goes_on, operated, rest_of, restarted, restarted_in, seen_of}
 use Rattle.turns.specs.Script.{Ends, TestThen, SeizeThen, first_wanted, is_held, left, left_of_test, left_of_seizing, value_read, walk}
 use Rattle.turns.specs.declared.answer.Answer.{Answer}
-use Rattle.turns.specs.declared.answer.Answer.TheVariants.{Requested, Seized, Held, Preferred, Changed, Value, Turn, Done}
+use Rattle.turns.specs.declared.answer.Answer.TheVariants.{Asked, Seized, Held, Preferred, Again, Value, Turn, Done}
 use Rattle.turns.specs.declared.phase.Phase.TheVariants as phases
 use Rattle.turns.specs.declared.phase.Phase.TheVariants.{Requests, Turns, Withdraws, GivesBack, Operates}
 use Rattle.turns.specs.declared.reading.Reading.{Reading}
@@ -171,7 +171,7 @@ module _ (plan : Tables) where
     holds_changed : (phase : Phase) (answer : Answer) → a.phase ≡ phase → HoldsFewIn plan a a.phase
         → IsValidIn (office plan) a phase → HoldsFewIn plan a phase
         → HoldsFewIn plan (changed (office plan) a phase answer) (changed (office plan) a phase answer).phase
-    holds_changed (Requests conn) (Requested told) at all valid holds = holds_at a (phases.Seizes conn told) holds
+    holds_changed (Requests conn) (Asked told) at all valid holds = holds_at a (phases.Seizes conn told) holds
     holds_changed (Requests conn) (Held holder) at all valid holds = tt
     holds_changed (Requests conn) (Preferred other) at all valid holds = tt
     holds_changed (phases.Seizes conn expected) Seized at all valid holds =
@@ -179,7 +179,7 @@ module _ (plan : Tables) where
         holds_on more (walk_result (office plan) more) (holds_more conn valid holds)
     holds_changed (phases.Seizes conn expected) (Held holder) at all valid holds = tt
     holds_changed (phases.Seizes conn expected) (Preferred other) at all valid holds = tt
-    holds_changed (phases.Seizes conn expected) (Changed told) at all valid holds = holds_at a (phases.Seizes conn told) holds
+    holds_changed (phases.Seizes conn expected) (Again told) at all valid holds = holds_at a (phases.Seizes conn told) holds
     holds_changed (phases.Tests word) (Value value) at all valid holds =
         let reading : Reading ℕ = record { word = word; value = value } in
         let more : Attempt = record a { readings = a.readings ++ reading ∷ [] } in

@@ -3,7 +3,7 @@ use Rattle.turns.specs.Attempt.{unless_denied}
 use Rattle.turns.specs.Operations.{applied}
 use Rattle.turns.specs.Sharings.{judged, request_bit, seized_by}
 use Rattle.turns.specs.declared.answer.Answer.{Answer}
-use Rattle.turns.specs.declared.answer.Answer.TheVariants.{Requested, Seized, Changed, Value, Turn as TurnNumber, Done}
+use Rattle.turns.specs.declared.answer.Answer.TheVariants.{Asked, Seized, Again, Value, Turn as TurnNumber, Done}
 use Rattle.xbar_equip.specs.Word.{ConnWord, TurnWord, word_number}
 use Rattle.turns.specs.declared.operation.Operation.{Operation}
 use Rattle.turns.specs.declared.operation.Operation.TheVariants.{Load, Or, And, Add, CompareExchange}
@@ -37,10 +37,10 @@ operation marker Finished = Load
 -- the answer to the marker's step, which found this value in its word
 abbrev pub step_answer : ℕ → Step → ℕ → Answer
 step_answer marker (Request conn) found =
-    unless_denied (Requested (bit_or found (request_bit marker)))
+    unless_denied (Asked (bit_or found (request_bit marker)))
     (judged marker (bit_or found (request_bit marker)))
 step_answer marker (Seize conn expected) found =
-    if found == expected then Seized else unless_denied (Changed found) (judged marker found)
+    if found == expected then Seized else unless_denied (Again found) (judged marker found)
 step_answer marker (Withdraw conn) found = Done
 step_answer marker (Test word) found = Value found
 step_answer marker Turn found = TurnNumber found

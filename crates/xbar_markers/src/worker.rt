@@ -51,7 +51,7 @@ impl<G: Gate + Drop> Worker<Desk, G> {
         self.gate.before_step();
         let answer = self.desk.step(fabric);
         // After a request that wasn't denied, the next step is the seizing.
-        if !matches!(answer, Some(Answer::Requested(_))) {
+        if !matches!(answer, Some(Answer::Asked(_))) {
             let _made = self.desk.run(fabric, &mut self.gate);
         }
         answer

@@ -12,7 +12,7 @@ use Rattle.turns.specs.Sharing.{IsTrueOf}
 use Rattle.turns.specs.Sharings.{judged, preferring, request_bit, seized_by}
 use Rattle.turns.specs.World.{Does, place}
 use Rattle.turns.specs.declared.answer.Answer.{Answer}
-use Rattle.turns.specs.declared.answer.Answer.TheVariants.{Requested, Seized, Held, Preferred, Changed, Value, Turn, Done}
+use Rattle.turns.specs.declared.answer.Answer.TheVariants.{Asked, Seized, Held, Preferred, Again, Value, Turn, Done}
 use Rattle.turns.specs.declared.judgement.Judgement.{Judgement}
 use Rattle.turns.specs.declared.judgement.Judgement.TheVariants as judgement
 use Rattle.turns.specs.declared.phase.Phase.TheVariants.{Requests, Seizes, Tests, Turns, Withdraws, GivesBack, Operates}
@@ -189,9 +189,9 @@ module _ (k number : ℕ) (a after : Attempt) where
   refused_answer : (answer : Answer) (holder : ℕ) (conn : Conn) → event_of k number a after answer ≡ event.Refused conn holder → (answer ≡ Held holder) × (asked_in a.phase ≡ Some conn)
   refused_answer (Held told) holder conn ends = let same = by_refusal told holder (asked_in a.phase) conn ends in (ap Held same.0, same.1)
   refused_answer (Preferred other) holder conn ends = absurd cc
-  refused_answer (Requested word) holder conn ends = absurd cc
+  refused_answer (Asked word) holder conn ends = absurd cc
   refused_answer Seized holder conn ends = absurd cc
-  refused_answer (Changed word) holder conn ends = absurd cc
+  refused_answer (Again word) holder conn ends = absurd cc
   refused_answer (Value value) holder conn ends = absurd cc
   refused_answer (Turn turn) holder conn ends = absurd cc
   refused_answer Done holder conn ends = absurd (done_goes (is_finished (act after)) (event.Refused conn holder) (λ r same. cc) (λ same. cc) ends)
@@ -203,9 +203,9 @@ module _ (k number : ℕ) (a after : Attempt) where
   pub preferred_answer : (answer : Answer) (other : ℕ) → event_of k number a after answer ≡ event.Preferred other → answer ≡ Preferred other
   preferred_answer (Held told) other ends = absurd (not_preferred told other (asked_in a.phase) ends)
   preferred_answer (Preferred told) other ends = cc
-  preferred_answer (Requested word) other ends = absurd cc
+  preferred_answer (Asked word) other ends = absurd cc
   preferred_answer Seized other ends = absurd cc
-  preferred_answer (Changed word) other ends = absurd cc
+  preferred_answer (Again word) other ends = absurd cc
   preferred_answer (Value value) other ends = absurd cc
   preferred_answer (Turn turn) other ends = absurd cc
   preferred_answer Done other ends = absurd (done_goes (is_finished (act after)) (event.Preferred other) (λ r same. cc) (λ same. cc) ends)

@@ -7,7 +7,7 @@ use Rattle.turns.specs.Law.{FitsIn, IsRecorded}
 use Rattle.turns.specs.Runs.{is_finished}
 use Rattle.turns.specs.World as worlds
 use Rattle.turns.specs.declared.answer.Answer.{Answer}
-use Rattle.turns.specs.declared.answer.Answer.TheVariants.{Requested, Seized, Held, Preferred, Changed, Value, Turn, Done}
+use Rattle.turns.specs.declared.answer.Answer.TheVariants.{Asked, Seized, Held, Preferred, Again, Value, Turn, Done}
 use Rattle.turns.specs.declared.phase.Phase.TheVariants.{Requests, Seizes, Tests, Turns, Withdraws, GivesBack, Operates}
 use Rattle.turns.proofs.Orders.{get_before}
 use Rattle.xbar_equip.specs.declared.conn.Conn.{Conn}
@@ -64,9 +64,9 @@ module _ (k number : ℕ) (after : Attempt) (r : Record) where
   by_answer : (a : Attempt) (answer : Answer) → event_of k number a after answer ≡ event.Finished r → IsLast answer
   by_answer a (Held holder) e = absurd (by_refusal holder _ e)
   by_answer a (Preferred other) e = absurd cc
-  by_answer a (Requested word) e = absurd cc
+  by_answer a (Asked word) e = absurd cc
   by_answer a Seized e = absurd cc
-  by_answer a (Changed word) e = absurd cc
+  by_answer a (Again word) e = absurd cc
   by_answer a (Value value) e = absurd cc
   by_answer a (Turn turn) e = absurd cc
   by_answer a Done e = record { told = refl; finished = by_rest (is_finished (act after)) e }

@@ -6,7 +6,7 @@ use Rattle.turns.specs.Attempt as generic
 use Rattle.turns.specs.Attempt.{act, act_in, change, changed, forgotten, free_act, giving_back, request_in, rest_of, restarted, restarted_in}
 use Rattle.turns.specs.World.{added_in, place}
 use Rattle.turns.specs.declared.answer.Answer.{Answer}
-use Rattle.turns.specs.declared.answer.Answer.TheVariants.{Requested, Held, Preferred, Done}
+use Rattle.turns.specs.declared.answer.Answer.TheVariants.{Asked, Held, Preferred, Done}
 use Rattle.turns.specs.declared.phase.Phase.TheVariants.{Requests, Seizes, Tests, Turns, Withdraws, GivesBack, Operates}
 use Rattle.turns.proofs.Lists.{index_other}
 use Rattle.xbar_equip.specs.Word.{ConnWord, word_number}
@@ -125,7 +125,7 @@ module _ (plan : Tables) where
   back_job a (Tests word) answer backs = absurd backs
   back_job a Turns answer backs = absurd backs
   back_job a (Operates turn) answer backs = absurd backs
-  back_job a (Requests conn) (Requested word) backs = refl
+  back_job a (Requests conn) (Asked word) backs = refl
   back_job a (Requests conn) (Held holder) backs = refl
   back_job a (Requests conn) (Preferred other) backs = refl
   back_job a (Withdraws conn) Done backs = freed_job a a.held

@@ -4,7 +4,7 @@ use Rattle.turns.specs.Among.{IsIn}
 use Rattle.turns.specs.Attempt.{act, act_in, change, changed, closing_act, free_act, giving_back, operated, rest_of, walks_on}
 use Rattle.turns.specs.declared.act.Act.TheVariants.{Free}
 use Rattle.turns.specs.declared.answer.Answer.{Answer}
-use Rattle.turns.specs.declared.answer.Answer.TheVariants.{Requested, Seized, Held, Preferred, Changed, Value, Turn, Done}
+use Rattle.turns.specs.declared.answer.Answer.TheVariants.{Asked, Seized, Held, Preferred, Again, Value, Turn, Done}
 use Rattle.turns.specs.declared.phase.Phase.TheVariants.{Requests, Seizes, Tests, Turns, Withdraws, GivesBack, Operates}
 use Rattle.turns.proofs.Lists.{in_front}
 use Rattle.turns.proofs.Sound.{freed_held, walks_held}
@@ -33,14 +33,14 @@ module _ (plan : Tables) where
 
   -- whatever the answer and the phase
   kept_in : (a : Attempt) (phase : Phase) (answer : Answer) (conn : Conn) → IsIn conn a.held → act_in phase a ≢ Free conn → IsIn conn (changed (office plan) a phase answer).held
-  kept_in a (Requests asked) (Requested word) conn within other = within
+  kept_in a (Requests asked) (Asked word) conn within other = within
   kept_in a (Requests asked) (Held holder) conn within other = within
   kept_in a (Requests asked) (Preferred marker) conn within other = within
   kept_in a (Seizes asked expected) Seized conn within other =
       kept_on (record a { held = a.held ++ asked ∷ [] }) conn (in_front conn a.held (asked ∷ []) within)
   kept_in a (Seizes asked expected) (Held holder) conn within other = within
   kept_in a (Seizes asked expected) (Preferred marker) conn within other = within
-  kept_in a (Seizes asked expected) (Changed word) conn within other = within
+  kept_in a (Seizes asked expected) (Again word) conn within other = within
   kept_in a (Tests word) (Value value) conn within other =
       kept_on (record a { readings = a.readings ++ record { word = word; value = value } ∷ [] }) conn within
   kept_in a Turns (Turn number) conn within other = within

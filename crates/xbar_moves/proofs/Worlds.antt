@@ -7,7 +7,7 @@ use Rattle.turns.specs.Law.{IsAvailable, Lawful}
 use Rattle.turns.specs.World as worlds
 use Rattle.turns.specs.World.{Idle, Does, added_in, becomes, moved, place, with_actor}
 use Rattle.turns.specs.declared.answer.Answer.{Answer}
-use Rattle.turns.specs.declared.answer.Answer.TheVariants.{Requested, Seized, Changed}
+use Rattle.turns.specs.declared.answer.Answer.TheVariants.{Asked, Seized, Again}
 use Rattle.turns.specs.declared.judgement.Judgement.{Judgement}
 use Rattle.turns.specs.declared.judgement.Judgement.TheVariants as judgement
 use Rattle.turns.specs.declared.phase.Phase.TheVariants.{Requests, Seizes, Tests, Turns, Withdraws, GivesBack, Operates}
@@ -47,12 +47,12 @@ turned_more [] more = refl
 turned_more (r ∷ records) more = ap (λ (all : List (worlds.Record Job Reply)). turned r ∷ all) (turned_more records more)
 
 -- a judged request or seizing adds no record
-adds_asked : (k n word : ℕ) (a : Attempt) (j : Judgement) → added_record k n a (told_by (Requested word) j) ≡ []
+adds_asked : (k n word : ℕ) (a : Attempt) (j : Judgement) → added_record k n a (told_by (Asked word) j) ≡ []
 adds_asked k n word a judgement.Free = refl
 adds_asked k n word a (judgement.Held holder) = refl
 adds_asked k n word a (judgement.Preferred other) = refl
 
-adds_seized : (k n word : ℕ) (a : Attempt) (b : Bool) (j : Judgement) → added_record k n a (if b then Seized else told_by (Changed word) j) ≡ []
+adds_seized : (k n word : ℕ) (a : Attempt) (b : Bool) (j : Judgement) → added_record k n a (if b then Seized else told_by (Again word) j) ≡ []
 adds_seized k n word a true j = refl
 adds_seized k n word a false judgement.Free = refl
 adds_seized k n word a false (judgement.Held holder) = refl

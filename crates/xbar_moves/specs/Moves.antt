@@ -98,9 +98,9 @@ refused_by holder (Some conn) = event.Refused conn holder
 abbrev pub event_of : ℕ → ℕ → Attempt → Attempt → Answer → Event
 event_of k number a after (answer.Held holder) = refused_by holder (asked_in a.phase)
 event_of k number a after (answer.Preferred other) = event.Preferred other
-event_of k number a after (answer.Requested word) = event.Moved
+event_of k number a after (answer.Asked word) = event.Moved
 event_of k number a after answer.Seized = event.Moved
-event_of k number a after (answer.Changed word) = event.Moved
+event_of k number a after (answer.Again word) = event.Moved
 event_of k number a after (answer.Value value) = event.Moved
 event_of k number a after (answer.Turn turn) = event.Moved
 event_of k number a after answer.Done = moved_on k number after (is_finished (act after))

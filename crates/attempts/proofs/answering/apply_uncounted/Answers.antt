@@ -3,11 +3,11 @@ use Rattle.turns.specs.declared.answer.Answer.{Answer}
 use Rattle.attempts.specs.Applied.{Applies}
 use Rattle.attempts.proofs.answering.apply_uncounted.Goals as goal
 
-pub returns-in-Requested : goal.returns-in-Requested
-returns-in-Requested g c = subst (λ (answer : Answer). Applies g.S.Lock.PartialEq.eq g.S.Scripts.reply_of g.S.Scripts.effects_of (g.S.Scripts.system c.args.setting.now) (g.S.Scripts.ResumePointIsValid c.args.setting.now) answer c.args.attempt.now c.apply_requested.new.attempt) (sym c.in-Requested.is) c.apply_requested.ensures
+pub returns-in-Asked : goal.returns-in-Asked
+returns-in-Asked g c = subst (λ (answer : Answer). Applies g.S.Lock.PartialEq.eq g.S.Scripts.reply_of g.S.Scripts.effects_of (g.S.Scripts.system c.args.setting.now) (g.S.Scripts.ResumePointIsValid c.args.setting.now) answer c.args.attempt.now c.apply_requested.new.attempt) (sym c.in-Asked.is) c.apply_requested.ensures
 
-pub returns-in-Changed : goal.returns-in-Changed
-returns-in-Changed g c = subst (λ (answer : Answer). Applies g.S.Lock.PartialEq.eq g.S.Scripts.reply_of g.S.Scripts.effects_of (g.S.Scripts.system c.args.setting.now) (g.S.Scripts.ResumePointIsValid c.args.setting.now) answer c.args.attempt.now c.apply_changed.new.attempt) (sym c.in-Changed.is) c.apply_changed.ensures
+pub returns-in-Again : goal.returns-in-Again
+returns-in-Again g c = subst (λ (answer : Answer). Applies g.S.Lock.PartialEq.eq g.S.Scripts.reply_of g.S.Scripts.effects_of (g.S.Scripts.system c.args.setting.now) (g.S.Scripts.ResumePointIsValid c.args.setting.now) answer c.args.attempt.now c.apply_changed.new.attempt) (sym c.in-Again.is) c.apply_changed.ensures
 
 pub returns-in-Held : goal.returns-in-Held
 returns-in-Held g c = subst (λ (answer : Answer). Applies g.S.Lock.PartialEq.eq g.S.Scripts.reply_of g.S.Scripts.effects_of (g.S.Scripts.system c.args.setting.now) (g.S.Scripts.ResumePointIsValid c.args.setting.now) answer c.args.attempt.now c.apply_denied.new.attempt) (sym c.in-Held.is) (c.apply_denied.ensures.held c.in-Held.field-0)

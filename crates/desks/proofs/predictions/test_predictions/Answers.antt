@@ -67,8 +67,8 @@ returns-then-found-prediction-clause-reported g c =
     let made : ℕ = c.loop-prediction.made in
     let one : made + 1 ≡ suc made = omega arith in
     let before = g.W.Watch.steps_watched c.args.watch.now in
-    subst (λ (n : ℕ). g.W.Watch.steps_watched c.before_step.new.self ≡ watched_more n before) one
-    (tells_on made 1 before _ _ c.loop-prediction.invariant.reported c.before_step.ensures)
+    subst (λ (n : ℕ). g.W.Watch.steps_watched c.make-found.new.watch ≡ watched_more n before) one
+    (tells_on made 1 before _ _ c.loop-prediction.invariant.reported c.make-found.ensures.watched)
 
 pub loop-prediction-preserved : goal.loop-prediction-preserved
 loop-prediction-preserved g c =
@@ -88,6 +88,6 @@ loop-prediction-preserved g c =
           _ _ _ _ _ _ _ _ c.loop-prediction.invariant.at_work c.loop-prediction.invariant.at_work.valid c.make-found.ensures.same.0 c.make-found.ensures.same.2;
       come = comes_on O c.args.actor c.args.number made 1 a here _ c.args.seat.now.me c.loop-prediction.seat.me c.make-found.new.seat.me c.loop-prediction.invariant.come
           (comes_once O c.args.actor c.args.number here _ c.loop-prediction.seat.me c.make-found.new.seat.me found c.make-found.ensures.reported is (asks_none O c.args.actor here prediction.word next.tests) (goes_on O c.args.actor here prediction.word next.tests));
-      reported = tells_on made 1 (g.W.Watch.steps_watched c.args.watch.now) _ _ c.loop-prediction.invariant.reported c.before_step.ensures;
+      reported = tells_on made 1 (g.W.Watch.steps_watched c.args.watch.now) _ _ c.loop-prediction.invariant.reported c.make-found.ensures.watched;
       within = omega (arith, next.within);
     }
