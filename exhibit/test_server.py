@@ -81,9 +81,10 @@ class OfServer(unittest.TestCase):
 
     def setUp(self):
         self.serve = loaded()
-        for name, value in self.limits.items():
+        for name in self.limits:
             self.assertTrue(hasattr(self.serve, name), f"the server has no {name}")
-            setattr(self.serve, name, value)
+        self.usual = {name: getattr(self.serve, name) for name in self.limits}
+        self.set_limits(self.limits)
         folder = tempfile.TemporaryDirectory()
         self.addCleanup(folder.cleanup)
         path = os.path.join(folder.name, "program")
@@ -100,7 +101,7 @@ class OfServer(unittest.TestCase):
         self.addCleanup(self.server.shutdown)
 
     def request(self, method, path, body=None, **headers):
-        with contextlib.closing(http.client.HTTPConnection("127.0.0.1", self.port, timeout=20)) as connection:
+        with contextlib.closing(http.client.HTTPConnection("127.0.0.1", self.port, timeout=60)) as connection:
             connection.request(method, path, body, {name.replace("_", "-"): it for name, it in headers.items()})
             response = connection.getresponse()
             return response.status, response.read(), response.headers
@@ -116,13 +117,19 @@ class OfServer(unittest.TestCase):
         self.assertRegex(said, rb"\A[^\n]+\.\n\Z")
         self.assertIn(words, said.decode())
 
+    def set_limits(self, limits):
+        for name, value in limits.items():
+            setattr(self.serve, name, value)
+
     def check_works(self):
-        """The server still answers, and holds nothing."""
+        """The server still answers, with its usual limits, and holds nothing."""
+        self.set_limits(self.usual)
         self.assertEqual(self.post(call_body("input", "text")), (200, b'{"status": 0, "text": "text"}'))
+        self.set_limits(self.limits)
         self.wait_for(lambda: self.server.held.bytes == 0, "the server holds something")
 
     def wait_for(self, holds, sentence):
-        end = time.monotonic() + 10
+        end = time.monotonic() + 60
         while not holds():
             self.assertLess(time.monotonic(), end, sentence)
             time.sleep(0.01)
@@ -130,7 +137,7 @@ class OfServer(unittest.TestCase):
     @contextlib.contextmanager
     def connected(self, *sent):
         """A connection over which this was sent."""
-        with socket.create_connection(("127.0.0.1", self.port), timeout=20) as line:
+        with socket.create_connection(("127.0.0.1", self.port), timeout=60) as line:
             for data in sent:
                 line.sendall(data)
             yield line
@@ -161,7 +168,7 @@ class Usual(OfServer):
         self.check_works()
 
     def test_many_requests_on_one_connection(self):
-        with contextlib.closing(http.client.HTTPConnection("127.0.0.1", self.port, timeout=20)) as connection:
+        with contextlib.closing(http.client.HTTPConnection("127.0.0.1", self.port, timeout=60)) as connection:
             for number in range(5):
                 body = call_body("input", str(number))
                 connection.request("POST", "/answer", body, {"Content-Type": "application/json"})
@@ -297,7 +304,11 @@ class Total(OfServer):
 
 
 class Slow(OfServer):
-    limits = {"SLOWEST_REQUEST": 1, "SLOWEST_ANSWER": 1, "MOST_SECONDS": 3, "LINGER": 0.1}
+    limits = {"SLOWEST_REQUEST": 1, "SLOWEST_ANSWER": 1, "LINGER": 0.1}
+
+    def check_works(self):
+        self.wait_for(lambda: self.server.held.bytes == 0, "the server holds something")
+        super().check_works()
 
     def drip(self, line, data):
         """Sends bytes one by one, until the server answers or all are sent; how long that took."""
@@ -306,7 +317,7 @@ class Slow(OfServer):
             for at in range(len(data)):
                 line.sendall(data[at:at + 1])
                 time.sleep(0.1)
-                if time.monotonic() - began > 10:
+                if time.monotonic() - began > 30:
                     break
                 line.settimeout(0.001)
                 with contextlib.suppress(TimeoutError):
@@ -320,7 +331,7 @@ class Slow(OfServer):
         whole = self.head(1000) + b"x" * 1000
         for sent in (0, 30, len(whole) - 1000, len(whole) - 500):
             with self.subTest(sent=sent), self.connected(whole[:sent]) as line:
-                self.assertLess(self.drip(line, whole[sent:]), 8)
+                self.assertLess(self.drip(line, whole[sent:]), 30)
                 self.check_refused(answer_on(line), 408, "took more than 1 seconds to come")
         self.check_works()
 
@@ -334,7 +345,7 @@ class Slow(OfServer):
         began = time.monotonic()
         with self.connected() as line:
             self.assertEqual(answer_on(line), (None, b""))
-        self.assertTrue(0.9 < time.monotonic() - began < 8)
+        self.assertTrue(0.9 < time.monotonic() - began < 30)
 
     def test_an_answer_that_is_not_taken(self):
         body = call_body("bytes 30000000")
@@ -343,13 +354,13 @@ class Slow(OfServer):
             self.wait_for(lambda: self.server.held.bytes == 0, "the answer is held for ever")
         self.check_works()
 
-    def test_a_call_that_takes_long(self):
-        self.check_refused(self.post(call_body("sleeps 60")), 503, "didn't end within 3 seconds")
-        self.check_works()
-
 
 class Busy(OfServer):
     limits = {"MOST_SECONDS": 2}
+
+    def test_a_call_that_takes_long(self):
+        self.check_refused(self.post(call_body("sleeps 60")), 503, "didn't end within 2 seconds")
+        self.check_works()
 
     def test_calls_that_wait(self):
         self.server.program.free = threading.Semaphore(1)
