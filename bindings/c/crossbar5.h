@@ -40,7 +40,11 @@ enum crossbar5_status {
     CROSSBAR5_INPUT_REFUSED = 4,   /* a row has a fault, or the input is no text of records. The text is the line of
                                       the fault, such as FAULT,T1,1 or FAULT,U1,1 */
     CROSSBAR5_OUT_OF_MEMORY = 5,   /* memory ran out. There is no text */
-    CROSSBAR5_FOUND_WRONG = 7      /* the records are not legal, or their counts are wrong. The text is the audit's */
+    CROSSBAR5_FOUND_WRONG = 7,     /* the records are not legal, or their counts are wrong. The text is the audit's */
+
+    /* These are of crossbar5_text alone, with no text. */
+    CROSSBAR5_BAD_CALL = 100,      /* a pointer is NULL, or a length above PTRDIFF_MAX. The library was not called */
+    CROSSBAR5_BAD_ANSWER = 101     /* the library told a length that its text can't have, as the real one never does */
 };
 
 /* The plan that the program has if none is named. */
@@ -64,8 +68,8 @@ struct crossbar5_answered {
    Writes the text to the beginning of `out`, which has `room` bytes, without a 0 byte after it. If the text is longer
    than `room`, `out` is left as it is: call again with room for `answer->length` bytes.
 
-   No pointer may be NULL, even with a length of 0, and neither `out` nor `answer` may overlap anything else. Calls
-   malloc, realloc and free, and nothing else of the C library but memcpy, memmove and memset. So don't call it from a
+   No pointer may be NULL, even with a length of 0. No length and no room may be above PTRDIFF_MAX, or more than there is
+   behind the pointer. Neither `out` nor `answer` may overlap anything else. None of this is checked. Calls malloc, realloc and free, and nothing else of the C library but memcpy, memmove and memset. So don't call it from a
    signal handler. A thread that calls it needs 256 KiB of stack. */
 void crossbar5_answer(uint32_t task,
                       const uint8_t *plan, size_t plan_length,
@@ -76,17 +80,25 @@ void crossbar5_answer(uint32_t task,
 
 /* Does the same, and returns the text in memory that the caller frees, with a 0 byte after it. The plan and the kinds
    end at their 0 bytes; the input may contain 0 bytes. Returns NULL if there is no memory for the text; the status is
-   then CROSSBAR5_OUT_OF_MEMORY. */
+   then CROSSBAR5_OUT_OF_MEMORY. Returns NULL too with CROSSBAR5_BAD_CALL and CROSSBAR5_BAD_ANSWER, and if `answer` is
+   NULL. */
 static inline char *crossbar5_text(uint32_t task, const char *plan, const char *kinds, const char *input,
                                    size_t input_length, struct crossbar5_answered *answer)
 {
     size_t room = 65536, plan_length = 0, kinds_length = 0;
+    int call;
     char *out;
+    if (!answer)
+        return NULL;
+    answer->length = 0;
+    answer->status = CROSSBAR5_BAD_CALL;
+    if (!plan || !kinds || !input || input_length > PTRDIFF_MAX)
+        return NULL;
     while (plan[plan_length])
         plan_length++;
     while (kinds[kinds_length])
         kinds_length++;
-    for (;;) {
+    for (call = 0; call < 2; call++) {
         out = (char *)malloc(room + 1);
         if (!out) {
             answer->length = 0;
@@ -101,7 +113,12 @@ static inline char *crossbar5_text(uint32_t task, const char *plan, const char *
         }
         free(out);
         room = answer->length;
+        if (room >= PTRDIFF_MAX)
+            break;
     }
+    answer->length = 0;
+    answer->status = CROSSBAR5_BAD_ANSWER;
+    return NULL;
 }
 
 #ifdef __cplusplus

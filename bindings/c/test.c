@@ -1,8 +1,9 @@
 /* Tests the C binding: test CASES [few].
 
    CASES is the file that bindings/cases.py writes. Each case is called with no room, with too little, with just enough
-   and with more; then eight threads call at once; memory is refused allocation by allocation, by the linker's --wrap; and
-   10,000 calls have to leave the resident size as it is. With `few`, for valgrind, only a part of this is done. */
+   and with more; each task is done once; then eight threads call at once; memory is refused allocation by allocation, by
+   the linker's --wrap; and 10,000 calls have to leave the resident size as it is. With `few`, for valgrind, only a part of
+   this is done. */
 
 #define _GNU_SOURCE
 #include "crossbar5.h"
@@ -23,6 +24,19 @@ struct test_case {
     uint32_t task, status;
     struct part kinds, plan, input, text;
     char name[200];
+};
+
+#define FIRST "J,0,1,D,3041\nS,0,128,,\n"
+#define HALF "J,0,1,D,3041\nS,0,5,,\n"
+#define RECORDS "0,1,0,D,3041,-,DIALTONE,1,3041-0-417,-\nPATHS,1\nCLOSED,4\n"
+
+/* What the text of each task has, with these rows or records. */
+static const struct {
+    const char *input, *part;
+} each_task[] = {
+    {FIRST, RECORDS},   {FIRST, "marker 0"}, {FIRST, "marker 0"},       {FIRST, "{"},
+    {RECORDS, "AUDIT,LEGAL,1\n"}, {RECORDS, "PATHS AT A GLANCE"}, {RECORDS, "<svg"}, {RECORDS, "id=\"turn0\""},
+    {HALF, "marker 0"}, {HALF, "{"},         {HALF, "<svg"},
 };
 
 static struct test_case cases[MOST_CASES];
@@ -238,16 +252,36 @@ static void try_text(const struct test_case *it)
     sprintf(plan, "%.*s", (int)it->plan.length, (const char *)it->plan.bytes);
     sprintf(kinds, "%.*s", (int)it->kinds.length, (const char *)it->kinds.bytes);
     text = crossbar5_text(it->task, plan, kinds, (const char *)it->input.bytes, it->input.length, &answer);
-    if (answer.status != it->status || answer.length != it->text.length || memcmp(text, it->text.bytes, answer.length) ||
-        text[answer.length])
+    if (!text || answer.status != it->status || answer.length != it->text.length ||
+        memcmp(text, it->text.bytes, answer.length) || text[answer.length])
         fail(it, "another text in memory of its own");
     free(text);
 }
+
+static void try_each_task(void)
+{
+    for (size_t task = 0; task < sizeof each_task / sizeof *each_task; task++) {
+        struct crossbar5_answered answer;
+        const char *input = each_task[task].input;
+        struct test_case it = {.task = (uint32_t)task};
+        char *text = crossbar5_text(it.task, CROSSBAR5_EXAMPLE_PLAN, "XX", input, strlen(input), &answer);
+        snprintf(it.name, sizeof it.name, "task %zu", task);
+        if (answer.status != CROSSBAR5_FINE || !text || !strstr(text, each_task[task].part))
+            fail(&it, "it isn't done");
+        free(text);
+    }
+}
+
+/* The answer lies in memory as the library has it. */
+_Static_assert(offsetof(struct crossbar5_answered, length) == 0, "the length comes first");
+_Static_assert(offsetof(struct crossbar5_answered, status) == sizeof(size_t), "the status comes second");
+_Static_assert(sizeof(struct crossbar5_answered) == 2 * sizeof(size_t), "there is nothing else");
 
 int main(int count, char **words)
 {
     void *few = count > 2 ? words : NULL;
     read_cases(words[1]);
+    try_each_task();
     for (size_t at = 0; at < case_count; at += few ? stride(100) : 1) {
         if (few && !is_small(&cases[at]))
             continue;

@@ -14,11 +14,13 @@ from __future__ import annotations
 import ctypes
 import enum
 import json
+import operator
 import os
+import sys
 
 __all__ = [
     "Engine", "Task", "EXAMPLE_PLAN", "EngineError", "NoSuchTask", "MarkersRefused", "PlanRefused", "TrafficRefused",
-    "RecordsRefused", "OutOfMemory", "FoundWrong",
+    "RecordsRefused", "OutOfMemory", "FoundWrong", "UnknownAnswer",
 ]
 
 # The plan that the program has if none is named.
@@ -84,8 +86,24 @@ class FoundWrong(EngineError):
     """The records aren't legal, or their counts are wrong (status 7). `text` is what the audit writes."""
 
 
+class UnknownAnswer(EngineError):
+    """The library answered as this module doesn't know: with another status, with a text that isn't UTF-8, or with a
+    length that its text can't have. `text` has what isn't UTF-8 as escapes."""
+
+    def __init__(self, status, text):
+        super().__init__(status, text)
+        self.args = (f"an unknown answer, with status {status}",)
+
+
 _ON_RECORDS = {Task.AUDIT, Task.DRAW_AS_TEXT, Task.DRAW, Task.PAGE}
 _ERRORS = {1: NoSuchTask, 2: MarkersRefused, 3: PlanRefused, 5: OutOfMemory, 7: FoundWrong}
+
+
+def _error_of(task, status):
+    """The exception for a status other than 0."""
+    if status == 4:
+        return RecordsRefused if task in _ON_RECORDS else TrafficRefused
+    return _ERRORS.get(status, UnknownAnswer)
 
 
 class _Answered(ctypes.Structure):
@@ -104,7 +122,14 @@ def _library(path):
 
 
 def _bytes(text):
-    return text.encode() if isinstance(text, str) else bytes(text)
+    return text.encode() if isinstance(text, str) else bytes(memoryview(text))
+
+
+def _room(room):
+    room = operator.index(room)
+    if not 0 <= room <= sys.maxsize:
+        raise ValueError(f"room has to be from 0 to {sys.maxsize}, and is {room}")
+    return room
 
 
 class Engine:
@@ -129,27 +154,37 @@ class Engine:
     def answer(self, task: int, given: str | bytes, room: int = 65536) -> tuple[int, bytes]:
         """The status and the text of the task of this number. It raises nothing for a status.
 
-        If the text doesn't fit into `room` bytes, the task is done again with as much room as it needs.
+        If the text doesn't fit into `room` bytes, the task is done again with as much room as it needs. A room that no
+        buffer can have is a ValueError.
         """
+        task, room, given = operator.index(task), _room(room), _bytes(given)
         if not 0 <= task < 2**32:
             return 1, b""
-        given, answered = _bytes(given), _Answered()
-        while True:
-            out = ctypes.create_string_buffer(max(room, 1))
-            self._call(task, self.plan, len(self.plan), self.markers, len(self.markers), given, len(given), out, room,
-                       ctypes.byref(answered))
-            if answered.length <= room:
-                return answered.status, ctypes.string_at(out, answered.length)
-            room = answered.length
+        answered = self._called(task, given, room)
+        if room < answered[1] <= sys.maxsize:
+            answered = self._called(task, given, answered[1])
+        status, length, out = answered
+        if length > len(out):
+            raise UnknownAnswer(status, "")
+        return status, ctypes.string_at(out, length)
+
+    def _called(self, task, given, room):
+        """One call of the library: the status, the length of the text, and the buffer, which has it if it fits."""
+        out, answered = (ctypes.c_char * room)(), _Answered()
+        self._call(task, self.plan, len(self.plan), self.markers, len(self.markers), given, len(given), out, room,
+                   ctypes.byref(answered))
+        return answered.status, answered.length, out
 
     def do(self, task: int, given: str | bytes) -> str:
         """The text of the task of this number, if its status is 0."""
         status, answer = self.answer(task, given)
-        text = answer.decode()
+        try:
+            text = answer.decode()
+        except UnicodeDecodeError:
+            raise UnknownAnswer(status, answer.decode(errors="backslashreplace")) from None
         if status == 0:
             return text
-        refused = RecordsRefused if task in _ON_RECORDS else TrafficRefused
-        raise _ERRORS.get(status, refused)(status, text)
+        raise _error_of(task, status)(status, text)
 
     def replay(self, rows: str | bytes) -> str:
         """The records of a replay of rows, with the counts."""

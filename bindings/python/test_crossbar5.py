@@ -12,7 +12,14 @@ CASES = os.environ.get("CROSSBAR5_CASES", os.path.join(HERE, os.pardir, "out", "
 THREADS = 8
 CALLS = 10_000
 FIRST = "J,0,1,D,3041\nS,0,128,,\n"
+HALF = "J,0,1,D,3041\nS,0,5,,\n"
 RECORDS = "0,1,0,D,3041,-,DIALTONE,1,3041-0-417,-\nPATHS,1\nCLOSED,4\n"
+# What the text of each task has, with these rows or records.
+EACH_TASK = [
+    (FIRST, RECORDS), (FIRST, "marker 0"), (FIRST, "marker 0"), (FIRST, "{"), (RECORDS, "AUDIT,LEGAL,1\n"),
+    (RECORDS, "PATHS AT A GLANCE"), (RECORDS, "<svg"), (RECORDS, 'id="turn0"'), (HALF, "marker 0"), (HALF, "{"),
+    (HALF, "<svg"),
+]
 
 
 def read_cases():
@@ -49,6 +56,13 @@ class OnCases(unittest.TestCase):
         for case in self.cases:
             with self.subTest(case[0]):
                 self.assertEqual(self.answer(case), tuple(case[5:]))
+
+    def test_each_task(self):
+        for task, (given, part) in enumerate(EACH_TASK):
+            with self.subTest(task=task):
+                status, text = self.engine.answer(task, given)
+                self.assertEqual(status, 0)
+                self.assertIn(part, text.decode())
 
     def test_room(self):
         for case in self.small[::5]:
@@ -114,10 +128,9 @@ class OfMethods(unittest.TestCase):
         self.assertGreaterEqual(len(events), 28)
 
     def test_looks(self):
-        half = "J,0,1,D,3041\nS,0,5,,\n"
-        self.assertIsInstance(self.engine.look(half), dict)
-        self.assertIn("marker 0", self.engine.look_text(half))
-        self.assertTrue(self.engine.look_svg(half).lstrip().startswith("<"))
+        self.assertIsInstance(self.engine.look(HALF), dict)
+        self.assertIn("marker 0", self.engine.look_text(HALF))
+        self.assertTrue(self.engine.look_svg(HALF).lstrip().startswith("<"))
 
     def test_tasks_on_records(self):
         self.assertEqual(self.engine.audit(RECORDS), "AUDIT,LEGAL,1\nPATHS,1\nCLOSED,4\n")

@@ -5,9 +5,10 @@
 // openEngine() gives the same object as in inside.js, with the name "served", and about as {key: "served"}. A promise
 // fails with the server's sentence if it refuses a call or can't do it. After a click a browser may draw the screen
 // before it hands over what a server answered; so the page names the calls that are likely to come next to `prepare`.
+// What was asked for ahead in vain is asked for again: the server may have had too much to do at that moment.
 
 async function openEngine() {
-    const NO_SUCH_TASK = 1;
+    const NO_SUCH_TASK = 1, OUT_OF_MEMORY = 5;
     const place = new URL("answer", location.href);
     let last = Promise.resolve();
 
@@ -31,16 +32,22 @@ async function openEngine() {
     }
 
     function askAhead(body) {
-        const stop = new AbortController(), answer = ask(body, stop.signal);
-        answer.catch(() => ahead.delete(body));
-        ahead.set(body, { answer, stop });
+        const stop = new AbortController(), answer = ask(body, stop.signal), asked = { answer, stop };
+        ahead.set(body, asked);
+        answer.catch(() => { if (ahead.get(body) === asked) ahead.delete(body); });
+    }
+
+    // What was asked for ahead, or null if that failed.
+    async function answerAhead({ answer }) {
+        const found = await answer.catch(() => null);
+        return found?.status === OUT_OF_MEMORY ? null : found;
     }
 
     async function answerNow(task, ...given) {
         if (!Number.isInteger(task) || task < 0 || task >= 2 ** 32) return { status: NO_SUCH_TASK, text: "" };
         const body = bodyOf(task, ...given), prepared = ahead.get(body);
         ahead.delete(body);
-        return prepared ? prepared.answer : ask(body);
+        return (prepared && await answerAhead(prepared)) ?? ask(body);
     }
 
     return {

@@ -21,7 +21,10 @@ function setAttributes(it, attributes) {
   for (const [name, value] of Object.entries(attributes)) {
     if (name.startsWith('on')) it.addEventListener(name.slice(2), value);
     else if (value === true) it.setAttribute(name, '');
-    else if (value !== false && value !== null && value !== undefined) it.setAttribute(name, value);
+    else if (value === false || value === null || value === undefined) continue;
+    // Not as an attribute, which the server's policy forbids.
+    else if (name === 'style') it.style.cssText = value;
+    else it.setAttribute(name, value);
   }
 }
 

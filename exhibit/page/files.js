@@ -24,9 +24,13 @@ class Files {
     });
   }
 
+  // Saves a drawing, or tells why there is none.
   async saveDrawing({ session }) {
-    const { text } = await session.engine.answer(TASK.drawing, session.plan, session.kinds, session.recordsText());
-    save('office.svg', 'image/svg+xml', text);
+    const call = [TASK.drawing, session.plan, session.kinds, session.recordsText()];
+    const answer = await session.engine.answer(...call).catch(error => ({ error }));
+    if (answer.status !== STATUS.fine) return this.tell(t('save.undrawn', { why: lackWords(answer) }));
+    setText($('files-message'), '');
+    save('office.svg', 'image/svg+xml', answer.text);
   }
 
   // Takes the first file: a plan if it is one, else rows. What is neither changes nothing, and its fault is told.
@@ -40,8 +44,9 @@ class Files {
     } catch {
       return this.tell(t('file.bytes', { name }));
     }
-    if (/^\s*(version|groups|numbers|codes|faults)\s*=/m.test(text)) await this.openPlan(name, text);
-    else await this.openRows(name, text);
+    const isPlan = /^\s*(version|groups|numbers|codes|faults)\s*=/m.test(text);
+    await (isPlan ? this.openPlan(name, text) : this.openRows(name, text)).catch(error =>
+      this.tell(t('fault.engine', { error: error.message ?? error })));
     $('file').value = '';
   }
 
@@ -55,14 +60,15 @@ class Files {
     this.tell('', t('file.plan', { name }));
   }
 
-  // A film of these rows, in an office with the plan that is shown; with 48 markers where they need more.
+  // A film of these rows, in an office with the plan that is shown; with other markers where they need more of them, or
+  // such as take all jobs.
   async openRows(name, text) {
     const { session, kinds } = this.page.stage, plan = session.plan;
     let fault, taken = kinds;
     for (const tried of [kinds, 'XX', 'X'.repeat(RUSH_MARKERS)]) {
       taken = tried;
       fault = await this.page.faultOf(plan, tried, text);
-      if (!fault || !fault.line.endsWith(',C1')) break;
+      if (!fault || !/,C[13]$/.test(fault.line)) break;
     }
     if (fault) return this.tell(t('file.refused', { name, why: faultWords(fault) }));
     await this.page.choose('film');

@@ -43,8 +43,10 @@ class FilmStage extends Stage {
   async one() { return this.tell(await this.session.inTurn(() => this.next())); }
 
   async autoStep() {
+    const { film } = this;
     await this.one();
-    if (this.isOver) { this.auto = false; this.changed(); }
+    // Another film may have been chosen meanwhile, which hasn't begun yet.
+    if (film === this.film && this.isOver) { this.auto = false; this.changed(); }
   }
 
   // The next step or assignment. Steps that a row has left for an idle marker change nothing.

@@ -9,7 +9,7 @@ class Kiosk {
     page.isKiosk = /^#kiosk(=\d{1,4})?$/.test(location.hash);
     if (!page.isKiosk) return;
     this.wait = 1000 * Math.max(1, Number(seconds ?? KIOSK_SECONDS));
-    this.attracts = false;
+    this.films = null;
     document.body.classList.add('kiosk');
     document.addEventListener('contextmenu', event => event.preventDefault());
     document.addEventListener('dragstart', event => event.preventDefault());
@@ -24,27 +24,28 @@ class Kiosk {
 
   touched(event) {
     this.restart();
-    if (!this.attracts) return;
+    if (!this.films) return;
     event.preventDefault();
     event.stopPropagation();
-    this.attracts = false;
+    this.films = null;
     $('attract').hidden = true;
     const { day } = this.page.stages;
     this.page.choose('day').then(() => day.begin(PLANS.example, 'XX'));
   }
 
-  // Plays one film after another.
+  // Plays one film after another, until a touch. Films that a touch has ended may still wait for something when these
+  // begin; they are others, and so don't go on.
   async attract() {
-    this.attracts = true;
+    const films = this.films = {}, goOn = () => this.films === films;
     for (const dialog of document.querySelectorAll('dialog[open]')) dialog.close();
     $('attract').hidden = false;
     const { film } = this.page.stages;
     await this.page.choose('film');
     film.speed = 7;
-    for (let at = 0; this.attracts; at++) {
+    for (let at = 0; goOn(); at++) {
       await film.play(film.films[at % FILMS.length]);
-      while (this.attracts && !film.isOver) await pause(200);
-      for (let rest = 0; this.attracts && rest < 15; rest++) await pause(200);
+      while (goOn() && !film.isOver) await pause(200);
+      for (let rest = 0; goOn() && rest < 15; rest++) await pause(200);
     }
   }
 }

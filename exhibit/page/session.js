@@ -2,6 +2,7 @@
 // all that there is; what stands is what the engine says of them. To step a marker is to add a row, to undo
 // is to take one back.
 const TASK = { replay: 0, audit: 4, lookJson: 9, drawing: 6 };
+const STATUS = { fine: 0, markersRefused: 2, planRefused: 3, outOfMemory: 5, foundWrong: 7 };
 const MOST_STEPS = 9999, MOST_JOBS = 10000;
 
 // Rows as text. Neighbouring steps of one marker become one row, but for the last, whose events are shown.
@@ -93,7 +94,7 @@ class Session {
 
   async lookAt(plan, kinds, rows) {
     const { status, text } = await this.engine.answer(...lookCall(plan, kinds, rows));
-    if (status !== 0) return { fault: { status, line: text.trim() } };
+    if (status !== STATUS.fine) return { fault: { status, line: text.trim() } };
     return { office: new Office(JSON.parse(text), rows.length > 0) };
   }
 
@@ -127,7 +128,8 @@ class Session {
   // The records so far, without counts, which an unsettled office need not have.
   recordsText() { return recordsText(this.office.records); }
 
-  async judge(records) { return (await this.engine.answer(TASK.audit, this.plan, this.kinds, records)).text; }
+  // What the audit answers about these records: its status and its text.
+  judge(records) { return this.engine.answer(TASK.audit, this.plan, this.kinds, records); }
 }
 
 // The call of the engine for what stands after these rows, with the events of the last one.

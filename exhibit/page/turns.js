@@ -48,12 +48,18 @@ function makeCard({ record, card }) {
     element('div', { class: 'punched', 'aria-hidden': 'true' }, ...rows));
 }
 
-// Asks the audit about these records, and shows its answer.
+// Asks the audit about these records, and shows its answer, or why there is none.
 async function judge(session, records, verdict) {
-  const answer = (await session.judge(records)).trim().split('\n');
-  const [, finding, place] = answer[0].split(',');
+  const answer = await session.judge(records).catch(error => ({ error }));
+  if (answer.status !== STATUS.fine && answer.status !== STATUS.foundWrong) return showUnjudged(answer, verdict);
+  const lines = answer.text.trim().split('\n'), [, finding, place] = lines[0].split(',');
   verdict.className = finding === 'LEGAL' ? 'legal' : 'illegal';
-  verdict.replaceChildren(element('code', {}, answer[0]), ' ', t(`audit.${finding}`, { place }));
-  if (finding === 'REPLY') verdict.append(element('pre', {}, answer.slice(1).join('\n')));
-  return answer[0];
+  verdict.replaceChildren(element('code', {}, lines[0]), ' ', t(`audit.${finding}`, { place }));
+  if (finding === 'REPLY') verdict.append(element('pre', {}, lines.slice(1).join('\n')));
+}
+
+function showUnjudged(answer, verdict) {
+  const isNoRecords = answer.text?.startsWith('FAULT,U1,');
+  verdict.className = 'unjudged';
+  verdict.replaceChildren(t('audit.unjudged', { why: isNoRecords ? t('audit.U1') : lackWords(answer) }));
 }

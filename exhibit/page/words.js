@@ -62,9 +62,16 @@ function eventWords(event, office) {
 
 // What is wrong with a plan, rows or kinds that the engine refused: its fault line, and a sentence.
 function faultWords({ status, line }) {
-  if (status === 5) return t('fault.memory');
-  if (status === 2) return t('fault.markers');
+  if (status === STATUS.outOfMemory) return t('fault.memory');
+  if (status === STATUS.markersRefused) return t('fault.markers');
   const [, name, place, cause] = line.split(',');
   const why = t(`fault.${cause ?? name}`);
-  return t(status === 3 ? 'fault.plan' : 'fault.rows', { place, why, line });
+  return t(status === STATUS.planRefused ? 'fault.plan' : 'fault.rows', { place, why, line });
+}
+
+// Why there is no audit or drawing: the engine gave no answer, or one that is neither.
+function lackWords({ status, text, error }) {
+  if (error) return t('fault.engine', { error: error.message ?? error });
+  if (status === STATUS.outOfMemory) return t('fault.memory');
+  return [t('fault.status', { status }), text.trim().split('\n')[0]].filter(it => it).join(' ');
 }

@@ -1,6 +1,6 @@
 """Calls that a visitor makes: step by step in random orders, whole, and in vain."""
 
-import random
+import os, random
 from xml.etree import ElementTree
 
 from browser import BrowserError
@@ -194,3 +194,29 @@ def calls_across(test):
     page.call("0004", "2340004")
     test.check(page.ends()[-1] == "CALLEDBUSY", f"one that calls himself ends {page.ends()[-1]}")
     test.check_office("a call to oneself")
+
+
+# From now on the engine gives this answer, or none.
+ENGINE_GIVES = """
+exhibit.engine.answer = async () => { if (!values[0]) throw new Error("it is gone"); return values[0]; };
+"""
+
+
+@scenario("b5", "an engine that gives no answer: no verdict, no drawing, and the page says why")
+def no_answer(test):
+    page, browser = test.page, test.browser
+    page.automatic(False)
+    page.lift("0001")
+    page.finish()
+    for answer in (None, {"status": 5, "text": ""}, {"status": 4, "text": "FAULT,U1,1\n"}):
+        browser.run(ENGINE_GIVES, answer)
+        page.press("#audit")
+        browser.wait("return document.querySelector('#verdict').className === 'unjudged'")
+        test.check(len(page.text("#verdict")) > 30, f"the page doesn't say why it can't judge: {page.text('#verdict')!r}")
+        page.press("#files")
+        page.forget_messages()
+        browser.click("#save-svg")
+        page.wait_for_message(10)
+        test.check(page.text("#files-message"), "the page doesn't say why there is no drawing")
+        test.check(not os.listdir(browser.downloads), f"the page saves {os.listdir(browser.downloads)}")
+        browser.click("#files-dialog .close")

@@ -10,14 +10,14 @@ ALL = []  # the scenarios, in the order of their modules
 
 
 class Scenario:
-    def __init__(self, name, title, act):
-        self.name, self.title, self.act = name, title, act
+    def __init__(self, name, title, act, timed):
+        self.name, self.title, self.act, self.timed = name, title, act, timed
 
 
-def scenario(name, title):
-    """Makes a scenario of a function that takes a Test."""
+def scenario(name, title, timed=False):
+    """Makes a scenario of a function that takes a Test. A timed one fails on a machine that is slow, or has other work."""
     def keep(act):
-        ALL.append(Scenario(name, title, act))
+        ALL.append(Scenario(name, title, act, timed))
         return act
     return keep
 

@@ -25,7 +25,7 @@ def time_steps(test, what, limit, most=SAMPLES):
     test.check(middle <= limit, f"{what}: a step takes {middle:.1f} ms, more than {limit}")
 
 
-@scenario("k1", "a step is answered and drawn within 16 ms with the example plan")
+@scenario("k1", "a step is answered and drawn within 16 ms with the example plan", timed=True)
 def times_of_the_example(test):
     test.page.automatic(False)
     for number in ("0001", "0003"):
@@ -33,7 +33,7 @@ def times_of_the_example(test):
     time_steps(test, "the example plan", EXAMPLE_PLAN)
 
 
-@scenario("k2", "a step is answered and drawn within 50 ms with a full plan and 100 jobs behind it")
+@scenario("k2", "a step is answered and drawn within 50 ms with a full plan and 100 jobs behind it", timed=True)
 def times_of_a_full_plan(test):
     page, rows = test.page, plans.calls(50) + "J,0,9999,D,9954\n"
     page.drop(test.file("full.toml", plans.full_plan()))

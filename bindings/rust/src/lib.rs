@@ -12,7 +12,7 @@
 
 #![deny(unsafe_op_in_unsafe_fn, missing_docs)]
 
-use std::fmt;
+use std::{fmt, str};
 
 /// The plan that the program has if none is named.
 pub const EXAMPLE_PLAN: &str = r#"version = 1
@@ -87,7 +87,8 @@ pub enum Error {
     OutOfMemory,
     /// The records aren't legal, or their counts are wrong (status 7), with what the audit writes.
     FoundWrong(String),
-    /// The library answered with a status that this crate doesn't know, or with a text that isn't UTF-8.
+    /// The library answered as this crate doesn't know: with another status, with a text that isn't UTF-8, or with a
+    /// length that its text can't have.
     Unknown(Answer),
 }
 
@@ -105,20 +106,22 @@ impl Error {
         }
     }
 
-    /// The text that came with the status. It may be empty.
+    /// The text that came with the status, if it is UTF-8. It may be empty.
     pub fn text(&self) -> &str {
         match self {
             Error::PlanRefused(text) | Error::TrafficRefused(text) => text,
             Error::RecordsRefused(text) | Error::FoundWrong(text) => text,
-            Error::NoSuchTask | Error::MarkersRefused | Error::OutOfMemory | Error::Unknown(_) => {
-                ""
-            }
+            Error::NoSuchTask | Error::MarkersRefused | Error::OutOfMemory => "",
+            Error::Unknown(answer) => str::from_utf8(&answer.text).unwrap_or(""),
         }
     }
 }
 
 impl fmt::Display for Error {
     fn fmt(&self, f: &mut fmt::Formatter<'_>) -> fmt::Result {
+        if let Error::Unknown(answer) = self {
+            return write!(f, "an unknown answer, with status {}", answer.status);
+        }
         match self.text().lines().next() {
             Some(line) => f.write_str(line),
             None => write!(f, "status {}", self.status()),
@@ -183,16 +186,34 @@ pub fn answer_into(
 }
 
 /// The answer to the task of this number, whatever its status.
-pub fn answer(task: u32, plan: &[u8], kinds: &[u8], input: &[u8]) -> Answer {
-    let mut text = vec![0; 65536];
-    loop {
-        let (length, status) = answer_into(task, plan, kinds, input, &mut text);
-        if length <= text.len() {
-            text.truncate(length);
-            return Answer { status, text };
-        }
-        text = vec![0; length];
+///
+/// # Errors
+///
+/// [`Error::OutOfMemory`] if there is no memory for the text here, and [`Error::Unknown`] if the library tells a length
+/// that its text can't have, as the real one never does.
+pub fn answer(task: u32, plan: &[u8], kinds: &[u8], input: &[u8]) -> Result<Answer, Error> {
+    let mut text = zeros(65536)?;
+    let (mut length, mut status) = answer_into(task, plan, kinds, input, &mut text);
+    if text.len() < length && length <= isize::MAX as usize {
+        text = zeros(length)?;
+        (length, status) = answer_into(task, plan, kinds, input, &mut text);
     }
+    if text.len() < length {
+        let text = Vec::new();
+        return Err(Error::Unknown(Answer { status, text }));
+    }
+    text.truncate(length);
+    Ok(Answer { status, text })
+}
+
+/// This many bytes of 0, if there is memory for them.
+fn zeros(size: usize) -> Result<Vec<u8>, Error> {
+    let mut bytes = Vec::new();
+    bytes
+        .try_reserve_exact(size)
+        .map_err(|_| Error::OutOfMemory)?;
+    bytes.resize(size, 0);
+    Ok(bytes)
 }
 
 /// An office with a plan and markers, in which tasks are done. It keeps nothing from one task to the next, so threads
@@ -226,7 +247,7 @@ impl Engine {
     ///
     /// Any status but 0, as an [`Error`]. The same holds of the methods below.
     pub fn task(&self, task: Task, input: impl AsRef<[u8]>) -> Result<String, Error> {
-        let answer = answer(task as u32, &self.plan, &self.markers, input.as_ref());
+        let answer = answer(task as u32, &self.plan, &self.markers, input.as_ref())?;
         let text = match String::from_utf8(answer.text) {
             Ok(text) => text,
             Err(error) => {
@@ -305,5 +326,18 @@ impl Engine {
     /// The same in SVG.
     pub fn look_in_svg(&self, rows: impl AsRef<[u8]>) -> Result<String, Error> {
         self.task(Task::LookInSvg, rows)
+    }
+}
+
+#[cfg(test)]
+mod tests {
+    use super::Answered;
+    use std::mem::{offset_of, size_of};
+
+    #[test]
+    fn the_answer_lies_as_the_library_has_it() {
+        assert_eq!(offset_of!(Answered, length), 0);
+        assert_eq!(offset_of!(Answered, status), size_of::<usize>());
+        assert_eq!(size_of::<Answered>(), 2 * size_of::<usize>());
     }
 }

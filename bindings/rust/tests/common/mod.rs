@@ -15,7 +15,7 @@ pub struct Case {
 
 impl Case {
     pub fn answer(&self) -> Answer {
-        answer(self.task, &self.plan, &self.kinds, &self.input)
+        answer(self.task, &self.plan, &self.kinds, &self.input).unwrap()
     }
 
     pub fn is_small(&self) -> bool {
