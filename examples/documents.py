@@ -6,7 +6,8 @@
 PROGRAM takes the place of bin/crossbar5. Read are README, TOUR, LESSON, FORMATS and examples/README. A command is a
 line of code that begins with printf, (printf, bin/crossbar5 or crossbar5; the code after it, up to prose or to the next
 command, is what it prints. In FORMATS it stands in a sentence, `COMMAND` writes, before its code. A command with no
-text after it has to end with status 0. Prints a line for each, and ends with status 1 where one differs.
+text after it has to end with status 0. Prints a line for each, and last `N passed, M failed`; the status is 1 where one
+differs.
 """
 
 import os
@@ -68,7 +69,7 @@ def run(command, folder, program):
 
 def main():
     program = os.path.abspath(sys.argv[1]) if sys.argv[1:] else f"{ROOT}/bin/crossbar5"
-    failures = 0
+    count = failures = 0
     with tempfile.TemporaryDirectory() as folder:
         for document in DOCUMENTS:
             with open(f"{ROOT}/{document}", encoding="utf-8") as it:
@@ -76,10 +77,12 @@ def main():
             for command, lines in commands:
                 printed, status = run(command, folder, program)
                 is_right = printed == "".join(f"{it}\n" for it in lines) if lines else status == 0
+                count += 1
                 failures += not is_right
                 print(f"{document}: {command}: {'as written' if is_right else 'differs'}", flush=True)
                 if not is_right:
                     print(printed[:500], f"(status {status})")
+    print(f"{count - failures} passed, {failures} failed")
     return failures > 0
 
 

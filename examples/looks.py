@@ -6,8 +6,8 @@
 First the traffic of the worked rows and of the examples, cut after each row; then COUNT random traffics (default 300),
 also cut after each row. Each look is compared with the model, object by object, and its words and records with those
 that a replay leaves once further rows have brought all markers to the end of their jobs. Looks of the worked rows are
-checked against docs/look.schema.json, by Python's `jsonschema` (python3-jsonschema in Debian). Prints what differs,
-and ends with status 1 then.
+checked against docs/look.schema.json, by Python's `jsonschema` (python3-jsonschema in Debian). Prints what differs, and
+last `N passed, M failed`, of traffics; the status is 1 where one differs.
 """
 import json, os, random, subprocess, sys, tomllib
 from concurrent.futures import ThreadPoolExecutor
@@ -168,15 +168,17 @@ def main():
     for number in range(COUNT):
         rows, kinds = some_rows(chance)
         cases.append((f"random {number}", "".join(r + "\n" for r in rows), some_plan(chance), kinds, None, True))
-    wrong = []
+    wrong, failures = [], 0
     with ThreadPoolExecutor(os.cpu_count()) as pool:
         for found in pool.map(check, cases):
             wrong += found
+            failures += bool(found)
     for line in wrong[:40]:
         print(line)
     print(f"{count} worked traffics, {COUNT} random ones: {len(wrong)} differences")
     for path in FILES.values():
         os.unlink(path)
+    print(f"{len(cases) - failures} passed, {failures} failed")
     sys.exit(1 if wrong else 0)
 
 

@@ -2,8 +2,8 @@
 # Does the same calls live again and again, by more and more markers, and has each run's records audited:
 # many_live_runs.sh [RUNS [PROGRAM]]
 #
-# Run k has 1 + k mod 24 markers that dial and 1 + k mod 23 that complete calls. Prints how many runs there
-# were, and ends with status 1 at the first one whose status, audit or calls aren't as they must be.
+# Run k has 1 + k mod 24 markers that dial and 1 + k mod 23 that complete calls. The first run whose status, audit or
+# calls aren't as they must be is named, and is the last, with status 1. The last line is `N passed, M failed`.
 set -euo pipefail
 
 runs=${1:-1000}
@@ -30,6 +30,7 @@ make_calls() {
 
 failed() {
     echo "run $1, $2 and $3 markers: $4" >&2
+    echo "$1 passed, 1 failed"
     exit 1
 }
 
@@ -45,4 +46,5 @@ for ((run = 0; run < runs; run++)); do
     dialled=$(awk -F, '$4 == "D" && $2 % 3 == 0 { print $2 / 3 }' "$folder/records" | sort -n)
     [[ $dialled == "$(seq 0 299)" ]] || failed "$run" "$dial" "$completing" "calls are missing"
 done
-echo "$runs runs, each legal, and all calls done once in each"
+echo "each run legal, and all calls done once in each"
+echo "$runs passed, 0 failed"

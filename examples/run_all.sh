@@ -3,7 +3,7 @@
 # of a drawing, NAME.html of a page; live calls, which may come in other turns, are judged by an audit:
 # run_all.sh [PROGRAM]
 #
-# Prints a line for each, and ends with status 1 where one differs.
+# Prints a line for each, and last `N passed, M failed`; the status is 1 where one differs.
 set -euo pipefail
 
 here=$(cd "$(dirname "$(readlink -f "${BASH_SOURCE[0]}")")" && pwd)
@@ -11,11 +11,11 @@ program=${1:-$here/../bin/crossbar5}
 [[ $program == /* ]] || program=$PWD/$program
 folder=$(mktemp -d)
 trap 'rm -r "$folder"' EXIT
-failures=0
+passed=0 failures=0
 
 tell() {
     echo "$1: $2"
-    [[ $2 == as\ expected ]] || failures=$((failures + 1))
+    if [[ $2 == as\ expected ]]; then passed=$((passed + 1)); else failures=$((failures + 1)); fi
 }
 
 # A replay of NAME.csv, by the words that follow.
@@ -91,4 +91,5 @@ replay ten_calls_from_one_frame --plan "$here/many_registers.toml"
 live live_calls --dial 1 --completing 1
 live live_calls --dial 2 --completing 2
 
+echo "$passed passed, $failures failed"
 exit $((failures > 0))
