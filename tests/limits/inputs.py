@@ -48,12 +48,16 @@ def group(number):
     return f"OUT{number} outgoing " + " ".join(place(k) for k in range(first, first + 40))
 
 
+def route_group(code, further):
+    """A group for a code: of an odd one inside the office, of an even one outgoing."""
+    return f"IN{1 + (code + further) % 5}" if code % 2 else f"OUT{6 + (code + further) % 10}"
+
+
 GROUPS = [group(number) for number in range(16)]
 # 3,000 numbers with ten lines each; every other has one line ten times, so that it is busy with that.
 NUMBERS = [f"{k:04} " + " ".join(line(k + 37 * j * (k % 2)) for j in range(10)) for k in range(3000)]
-# 64 codes with four groups each, by turns inside the office and outgoing; every fourth has one group four times.
-CODES = [f"{100 + k} " + " ".join(f"IN{1 + (k + j * (k % 4 > 1)) % 5}" if k % 2 else f"OUT{6 + (k + j * (k % 4 > 1)) % 10}"
-                                  for j in range(4)) for k in range(64)]
+# 64 codes with four groups each, by turns inside the office and outgoing; half of them have one group four times.
+CODES = [f"{100 + k} " + " ".join(route_group(k, j * (k % 4 > 1)) for j in range(4)) for k in range(64)]
 FAULTS = [link(k) for k in range(100)]
 
 

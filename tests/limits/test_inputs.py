@@ -5,6 +5,7 @@ gave bytes. A pipe in packet mode (Linux's O_DIRECT) gives one packet a read, so
 as many full reads would have 4 GiB, which is not tried."""
 
 import os
+import resource
 import subprocess
 import threading
 
@@ -14,6 +15,10 @@ MOST_READS = 1_048_576
 TOO_LONG = fault("LONG") + b"crossbar5: standard input is too long\n"
 # Empty lines are skipped, so these bytes are no rows.
 PACKET = b"\n" * 4
+
+
+def with_little_memory():
+    resource.setrlimit(resource.RLIMIT_AS, (256 << 20, 256 << 20))
 
 
 def feed(descriptor, packets, last):
@@ -31,7 +36,10 @@ def feed(descriptor, packets, last):
 class Inputs(ProgramTest):
     def in_packets(self, packets, last, *words):
         """The status and both outputs of a run whose input comes in packets, the last one being `last`."""
-        reading, writing = os.pipe2(os.O_DIRECT | os.O_CLOEXEC)
+        try:
+            reading, writing = os.pipe2(os.O_DIRECT | os.O_CLOEXEC)
+        except OSError as error:
+            self.skipTest(f"the system has no pipes in packet mode: {error}")
         feeder = threading.Thread(target=feed, args=(writing, packets, last))
         with start(*words, stdin=reading, stdout=subprocess.PIPE, stderr=subprocess.PIPE) as running:
             os.close(reading)
@@ -52,10 +60,6 @@ class Inputs(ProgramTest):
 
     def test_input_without_end(self):
         """/dev/zero has no end: it is too long, or there is no memory for it. Here memory ends first."""
-        def with_little_memory():
-            import resource
-            resource.setrlimit(resource.RLIMIT_AS, (256 << 20, 256 << 20))
-
         with open("/dev/zero", "rb") as zeros:
             self.expect(["replay"], 5, errors=fault("MEMORY"), stdin=zeros, preexec_fn=with_little_memory)
 
