@@ -377,15 +377,17 @@ def sentences(plan, r):
 def asked(r): return f"line {r.of} " + {"D": "wants dial tone", "C": f"calls {r.dialled}", "R": "hangs up"}[r.kind]
 def stays(plan, records):
     """each path that a turn sets up, with the place of the turn that sets it up and of the one that takes it out"""
-    sets = [[]]
-    for r in records: sets.append(after(plan, sets[-1], r))
-    o = []
-    for k, (before, now) in enumerate(zip(sets, sets[1:])):
-        old = {p.text for p in before}
+    o, since, before = [], {}, []
+    for k, r in enumerate(records):
+        now = after(plan, before, r)
+        here = {p.text for p in now}
+        for p in before:
+            if p.text not in here: o[since.pop(p.text)][2] = k
         for p in now:
-            if p.text not in old:
-                until = next((j for j in range(k + 1, len(records)) if p.text not in {q.text for q in sets[j + 1]}), None)
-                o.append((p, k, until))
+            if p.text not in since:
+                since[p.text] = len(o)
+                o.append([p, k, None])
+        before = now
     return o
 def stay(plan, p, k, until):
     o = f'<g data-from="{k}"' + ("" if until is None else f' data-until="{until}"') + ">\n"

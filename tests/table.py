@@ -196,7 +196,8 @@ class Run:
         if count.failed:
             self.say(*(f"    {line[:300]}" for line in lines[-SHOWN_LINES:]), sep="\n")
         said = f"FAILED: {wrong}" if wrong else str(count)
-        self.say(f"{step.name}: {said} ({time.monotonic() - begun:.0f} s)" + (f"; {self.log(step)}" if count.failed else ""))
+        place = f"; all of its output is in {self.log(step)}" if count.failed else ""
+        self.say(f"{step.name}: {said} ({time.monotonic() - begun:.0f} s){place}")
 
 
 def picked(table, words, left_out=()):

@@ -23,16 +23,18 @@ def closing(descriptor):
     return lambda: os.close(descriptor)
 
 
-class Devices(ProgramTest):
-    def each(self, commands=TASKS):
-        for command in commands:
-            with self.subTest(command):
-                yield command.split(" "), TASKS.get(command, b"")
+def each(commands=TASKS):
+    """Each command by its words, with an input."""
+    for command in commands:
+        yield command.split(" "), TASKS.get(command, b"")
 
+
+class Devices(ProgramTest):
     def test_full_output(self):
-        for words, data in self.each([*TASKS, *TOLD]):
-            with open(FULL, "wb") as full:
-                self.expect(words, 6, None, NO_OUTPUT, data=data, stdout=full)
+        for words, data in each([*TASKS, *TOLD]):
+            with self.subTest(words):
+                with open(FULL, "wb") as full:
+                    self.expect(words, 6, None, NO_OUTPUT, data=data, stdout=full)
 
     def test_full_output_of_a_fault_line(self):
         """The fault line can't be written, so the device decides."""
@@ -61,8 +63,9 @@ class Devices(ProgramTest):
 
     def test_closed_output(self):
         """`>&-`"""
-        for words, data in self.each([*TASKS, *TOLD]):
-            self.expect(words, 6, b"", NO_OUTPUT, data=data, preexec_fn=closing(1))
+        for words, data in each([*TASKS, *TOLD]):
+            with self.subTest(words):
+                self.expect(words, 6, b"", NO_OUTPUT, data=data, preexec_fn=closing(1))
 
     def test_closed_output_with_a_plan(self):
         """The plan's file is opened as the stream that was closed, for reading alone: it isn't written to."""
@@ -74,14 +77,16 @@ class Devices(ProgramTest):
 
     def test_closed_input(self):
         """`<&-`"""
-        for words, _ in self.each():
-            self.expect(words, 6, b"", NO_INPUT, preexec_fn=closing(0))
+        for words, _ in each():
+            with self.subTest(words):
+                self.expect(words, 6, b"", NO_INPUT, preexec_fn=closing(0))
 
     def test_closed_input_that_nobody_reads(self):
-        for words, _ in self.each(TOLD):
-            ended = self.run_here(*words, preexec_fn=closing(0))
-            self.assertEqual((ended.status, ended.errors), (0, b""))
-            self.assertTrue(ended.output)
+        for words, _ in each(TOLD):
+            with self.subTest(words):
+                ended = self.run_here(*words, preexec_fn=closing(0))
+                self.assertEqual((ended.status, ended.errors), (0, b""))
+                self.assertTrue(ended.output)
 
     def test_closed_errors(self):
         """`2>&-`"""
@@ -90,22 +95,24 @@ class Devices(ProgramTest):
         self.expect(["replay", "--markers", "Y"], 2, b"", b"", data=DIAL, preexec_fn=closing(2))
 
     def test_input_that_is_a_folder(self):
-        for words, _ in self.each():
-            folder = os.open(self.folder, os.O_RDONLY)
-            try:
-                self.expect(words, 6, b"", NO_INPUT, stdin=folder)
-            finally:
-                os.close(folder)
+        for words, _ in each():
+            with self.subTest(words):
+                folder = os.open(self.folder, os.O_RDONLY)
+                try:
+                    self.expect(words, 6, b"", NO_INPUT, stdin=folder)
+                finally:
+                    os.close(folder)
 
     def test_output_that_nobody_reads(self):
         """A pipe whose reader has gone is a device that fails: the status is 6, and no signal ends the program."""
-        for words, data in self.each([*TASKS, *TOLD]):
-            reading, writing = os.pipe()
-            os.close(reading)
-            try:
-                self.expect(words, 6, None, NO_OUTPUT, data=data, stdout=writing)
-            finally:
-                os.close(writing)
+        for words, data in each([*TASKS, *TOLD]):
+            with self.subTest(words):
+                reading, writing = os.pipe()
+                os.close(reading)
+                try:
+                    self.expect(words, 6, None, NO_OUTPUT, data=data, stdout=writing)
+                finally:
+                    os.close(writing)
 
     def test_reader_that_stops(self):
         """`| head -1`: the answer is longer than a pipe holds, and its reader stops after the first line."""

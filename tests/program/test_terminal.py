@@ -23,7 +23,10 @@ PATIENCE = 60
 
 class TerminalTest(ProgramTest):
     def terminal(self):
-        made = Terminal()
+        try:
+            made = Terminal()
+        except OSError as error:
+            self.skipTest(f"the system gives no pseudo-terminal: {error}")
         self.addCleanup(made.close)
         return made
 
