@@ -1,8 +1,5 @@
 //! A call with refused memory. This test passes whichever allocation is refused.
 
-ghost use Rattle.std.specs.Prelude.{◌≡◌, All, vec_len};
-ghost use Rattle.xbar_markers.specs.Calls.{HasCallNo};
-
 use super::*;
 use test_tools::check_eq;
 use xbar_markers::RunFault;

@@ -1,15 +1,20 @@
 //! The same meetings of desks that a caller opens and shuts.
 
-ghost use Rattle.std.specs.Prelude.{◌≡◌, All, vec_len};
+ghost use Rattle.std.specs.Prelude.{All};
 ghost use Rattle.xbar_fabric.specs.Meetings.{AreAllIdle};
 ghost use Rattle.xbar_markers.specs.Calls.{HasCallNo};
 ghost use Rattle.xbar_markers.specs.DesksByKind.{AreDesksByKind};
 
 use super::*;
-use crate::fixtures::check_history;
+use crate::fixtures::{check_history, example};
+use std::alloc::Global;
+use std::process::Abort;
+use std::sync::Wait;
+use std::thread::Threads;
 use xbar_fabric::{Desk, Fabric, shut_all};
-use xbar_markers::{open_desks, run_desks};
+use xbar_markers::{Call, open_desks, run_desks};
 use xbar_office::{Record, audit};
+use xbar_plan::Plan;
 
 /// Has the desks do these calls, with gates at which they meet. Returns their records too.
 fn do_calls<R: Threads + Wait + Sync + Abort>(

@@ -1,5 +1,7 @@
 //! One of two desks shuts the office, in which one of them is amid a job.
 
+ghost use Rattle.xbar_fabric.specs.Views.{IsDeskOf};
+
 use super::*;
 use crate::fixtures::{check_history, job};
 use xbar_fabric::{Desk, shut};
@@ -74,7 +76,7 @@ fn check_shut_amid<R: Threads + Sync + Abort>(rt: &R, alloc: Global, plan: &Plan
     } else {
         words_of(rt, alloc, fabric, one.desk)
     };
-    check_taken(rt, &mut words);
+    check_taken(rt, words.as_mut_slice());
     check_eq!(rt; records.len(), 2, "both lines have dial tone");
     check_history(rt, alloc, plan, "one desk shuts", &records, &words);
 }
