@@ -1,3 +1,6 @@
+ghost use Rattle.std.specs.Prelude.{◌≡◌, ◌↔◌, IsTrue};
+ghost use Rattle.command_rows.specs.Agreement.{IsMetBy};
+
 use toml::Value;
 
 /// What is expected on a stream.
@@ -13,7 +16,9 @@ pub enum Expected<'a> {
 
 impl Expected<'_> {
     /// Whether the bytes are as expected.
-    pub fn is_met_by(&self, bytes: &[u8]) -> bool {
+    pub fn is_met_by(&self, bytes: &[u8]) -> bool
+        ensures { IsTrue result ↔ IsMetBy self.now bytes.now }
+    {
         match self {
             Expected::All(text) => bytes == text.as_bytes(),
             Expected::Start(text) => bytes.starts_with(text.as_bytes()),

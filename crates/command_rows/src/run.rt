@@ -1,3 +1,6 @@
+ghost use Rattle.std.specs.Prelude.{◌≡◌, ◌↔◌, IsTrue};
+ghost use Rattle.command_rows.specs.Agreement.{Agrees};
+
 use crate::plan_file::PlanFile;
 use crate::row::Row;
 use crossbar5::Counted;
@@ -20,7 +23,9 @@ pub struct RowResult {
 
 impl RowResult {
     /// Whether this is what the row expects.
-    pub fn is_as_expected(&self, row: &Row<'_>) -> bool {
+    pub fn is_as_expected(&self, row: &Row<'_>) -> bool
+        ensures { IsTrue result ↔ Agrees self.now row.now }
+    {
         row.output.is_met_by(&self.output)
             && row.errors.is_met_by(&self.errors)
             && self.status == row.status

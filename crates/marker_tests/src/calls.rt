@@ -16,6 +16,7 @@ mod doing;
 mod gates;
 mod handing;
 mod overlapping;
+mod refused;
 
 /// How many markers dial, and how many complete calls.
 #[derive(Clone, Copy, Debug)]

@@ -12,6 +12,10 @@ use xbar_equip::{Conn, WORD_COUNT, WordNo};
 use xbar_jobs::{Answer, Program, Step};
 use xbar_plan::Plan;
 
+mod denied;
+mod longest;
+mod moving;
+
 const LINES: Conn = Conn::Llf(3);
 
 const GROUP: Conn = Conn::Group(0);
@@ -35,13 +39,7 @@ const STEPS: [(u32, Step, u64, u64, Answer); 20] = [
     (1, Step::Withdraw(GROUP), 520, 8, Answer::Done),
     (1, Step::Free(LINES), 2, 0, Answer::Done),
     // The last marker.
-    (
-        47,
-        Step::Request(LINES),
-        0,
-        1 << 55,
-        Answer::Asked(1 << 55),
-    ),
+    (47, Step::Request(LINES), 0, 1 << 55, Answer::Asked(1 << 55)),
     (47, Step::Seize(LINES, 1 << 55), 1 << 55, 48, Answer::Seized),
     (47, Step::Seize(LINES, 1 << 55), 8, 8, Answer::Held(7)),
     (47, Step::Withdraw(LINES), (1 << 55) + 1, 1, Answer::Done),

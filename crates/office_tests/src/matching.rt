@@ -1,11 +1,11 @@
 //! What a marker works out from words: the channel test, traces and counts.
 
-use crate::fixtures::near_path;
+use crate::fixtures::{near_path, path_of};
 use std::fmt::InlineText;
 use std::process::Abort;
 use std::test::Fail;
 use test_tools::check_eq;
-use xbar_equip::{EquipFault, Len, Path, Ten, WORD_COUNT};
+use xbar_equip::{Crosspoint, EquipFault, Len, Path, Ten, WORD_COUNT};
 use xbar_match::{
     count_closed, count_paths, effects_of, find_line, find_number, idle_links, idle_trunk_links,
     laws, line_place_of, match_channel, place_of, shape_at, trace, trace_back,
@@ -95,6 +95,15 @@ fn reads_fields(rt: HostRuntime) {
 fn closes_the_crosspoints_of_a_path(rt: HostRuntime) {
     let path = near_path();
     check_eq!(rt; effects_of(&path), path.crosspoints());
+}
+
+/// The word, the field and the value of each crosspoint of a path between the last frames.
+#[test]
+fn closes_the_crosspoints_of_a_far_path(rt: HostRuntime) -> Result<(), Fail> {
+    let path = path_of("2954", "9", "999")?;
+    let effects = effects_of(&path).map(|c: Crosspoint| (c.word.number(), c.field, c.value));
+    check_eq!(rt; effects, [(49, 9, 30), (59, 9, 10), (399, 2, 10), (389, 9, 10)]);
+    Ok(())
 }
 
 const SHAPES: &[(u16, Shape)] = &[

@@ -1,6 +1,7 @@
 //! The one-marker office: many paths, many records, and refused memory. Jobs with their replies,
 //! and audits, are rows of `worked_rows`.
 
+mod audited;
 mod large;
 mod memory;
 

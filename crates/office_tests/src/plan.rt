@@ -4,3 +4,4 @@
 mod limits;
 mod memory;
 mod tables;
+mod texts;

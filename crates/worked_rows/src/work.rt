@@ -1,6 +1,10 @@
+ghost use Rattle.std.specs.Prelude.{◌≡◌, ◌↔◌, IfSome, IsTrue, Some, option_map, string_bytes};
+ghost use Rattle.worked_rows.specs.Agreement.{Agrees};
+
 use crate::row::{Row, Verb};
 use crossbar5::{Counted, EngineFault, Response, Status, Task, answer_task, kinds_of};
 use std::alloc::{AllocError, Global};
+use std::fmt;
 
 /// What the engine made of a row.
 #[derive(Drop)]
@@ -15,11 +19,38 @@ pub struct RowResult {
 
 impl RowResult {
     /// Whether this is what the row expects. The sentence is compared only if the row has one.
-    pub fn is_as_expected(&self, row: &Row<'_>) -> bool {
+    pub fn is_as_expected(&self, row: &Row<'_>) -> bool
+        ensures { IsTrue result ↔ Agrees self.now row.now }
+    {
         self.text.as_slice() == row.output.as_bytes()
             && self.reasons.as_slice() == row.reasons.as_bytes()
             && self.status == row.status
-            && (row.diagnostic.is_none() || self.diagnostic.as_deref() == row.diagnostic)
+            && is_told(&self.diagnostic, row.diagnostic)
+    }
+}
+
+/// Whether the sentence is the wanted one, if one is wanted.
+fn is_told(told: &Option<String>, wanted: Option<&str>) -> bool
+    ensures { IsTrue result ↔ IfSome wanted.entry
+        (λ wanted. option_map string_bytes told.now ≡ Some wanted.now) }
+{
+    match (told, wanted) {
+        (_, None) => true,
+        (Some(told), Some(wanted)) => told.as_str() == wanted,
+        (None, Some(_)) => false,
+    }
+}
+
+impl fmt::Display for RowResult {
+    fn fmt<W: fmt::Write>(&self, f: &mut fmt::Formatter<W>) -> fmt::Result {
+        let text = str::from_utf8(&self.text).unwrap_or("no text");
+        let reasons = str::from_utf8(&self.reasons).unwrap_or("no text");
+        let diagnostic = self.diagnostic.as_deref().unwrap_or("no diagnostic");
+        let status = self.status;
+        write!(
+            f,
+            "status {status}, {diagnostic}, and this:\n{text}{reasons}"
+        )
     }
 }
 

@@ -7,6 +7,8 @@ use super::gates::{Board, Meeting, MeetingGate, Point, Tally};
 use super::*;
 use test_tools::check_eq;
 
+mod desks;
+
 /// How often each meeting is tried.
 const TIMES: u32 = 200;
 

@@ -15,6 +15,8 @@ use xbar_fabric::{Fabric, Given, Kind, meet};
 use xbar_office::End;
 use xbar_plan::Plan;
 
+mod one_shuts;
+
 /// Takes the last desk at work.
 fn last_at_work(rt: &impl Abort, _fabric: &Fabric, shifts: &mut Vec<DeskAtWork>) -> DeskAtWork
     requires { All (λ shift. IsDeskOf shift.desk _fabric.now) shifts.old.items }

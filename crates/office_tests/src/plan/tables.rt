@@ -11,10 +11,10 @@ use xbar_plan_text::PlanText;
 /// What lookups in a plan return: the lines of numbers, the groups of codes, and which links are
 /// faulty.
 #[derive(Clone, Copy)]
-struct Answers {
-    numbers: &'static [(u16, &'static [&'static str])],
-    codes: &'static [(u16, Option<&'static [u8]>)],
-    links: &'static [(&'static str, bool)],
+pub struct Answers {
+    pub numbers: &'static [(u16, &'static [&'static str])],
+    pub codes: &'static [(u16, Option<&'static [u8]>)],
+    pub links: &'static [(&'static str, bool)],
 }
 
 fn has_lines(plan: &Plan, number: DirNo, wanted: &[&str]) -> bool {
@@ -31,7 +31,7 @@ fn is_faulty(plan: &Plan, link: &str) -> Result<bool, EquipFault> {
     Ok(plan.faulty(Link::parse(link.as_bytes())?))
 }
 
-fn check_answers(rt: &impl Abort, plan: &Plan, answers: &Answers) {
+pub fn check_answers(rt: &impl Abort, plan: &Plan, answers: &Answers) {
     for (number, lines) in answers.numbers {
         assert!(rt; *number < 10_000);
         check!(rt; has_lines(plan, DirNo::new(*number), *lines), number);
@@ -145,7 +145,8 @@ numbers = [
 version = 2
 "#;
 
-fn text_of(rt: &impl Abort, alloc: Global, plan: &Plan) -> String {
+/// The text that the plan writes, in version 2.
+pub fn text_of(rt: &impl Abort, alloc: Global, plan: &Plan) -> String {
     let bytes = plan
         .version_2(alloc)
         .expect(rt, "there is memory for a text");
