@@ -68,9 +68,11 @@ struct crossbar5_answered {
    Writes the text to the beginning of `out`, which has `room` bytes, without a 0 byte after it. If the text is longer
    than `room`, `out` is left as it is: call again with room for `answer->length` bytes.
 
-   No pointer may be NULL, even with a length of 0. No length and no room may be above PTRDIFF_MAX, or more than there is
-   behind the pointer. Neither `out` nor `answer` may overlap anything else. None of this is checked. Calls malloc, realloc and free, and nothing else of the C library but memcpy, memmove and memset. So don't call it from a
-   signal handler. A thread that calls it needs 256 KiB of stack. */
+   No pointer may be NULL, even with a length of 0. No length and no room may be above PTRDIFF_MAX, or more than there
+   is behind the pointer. Neither `out` nor `answer` may overlap anything else. None of this is checked.
+
+   Calls malloc, realloc and free, and nothing else of the C library but memcpy, memmove and memset. So don't call it
+   from a signal handler. A thread that calls it needs 256 KiB of stack. */
 void crossbar5_answer(uint32_t task,
                       const uint8_t *plan, size_t plan_length,
                       const uint8_t *kinds, size_t kinds_length,

@@ -26,7 +26,7 @@ function same(found, wanted, what) {
 // What a test needs of an element: its attributes, its contents, and the text of both it and them.
 class Element {
     constructor(name) {
-        Object.assign(this, { name, attributes: {}, contents: [], listeners: {}, dataset: {}, style: {}, hidden: false });
+        Object.assign(this, { name, attributes: {}, contents: [], listeners: {}, dataset: {}, style: {} });
         this.classList = { add() {}, toggle() {} };
         this.className = "";
     }
@@ -87,7 +87,8 @@ class Clock {
         const end = this.now + time;
         for (;;) {
             await settled();
-            const due = [...this.timers].filter(([, it]) => it.at <= end).sort(([, one], [, other]) => one.at - other.at)[0];
+            const ready = [...this.timers].filter(([, it]) => it.at <= end);
+            const [due] = ready.sort(([, one], [, other]) => one.at - other.at);
             if (!due) break;
             this.timers.delete(due[0]);
             this.now = Math.max(this.now, due[1].at);
@@ -129,7 +130,8 @@ const GONE = new Error("Failed to fetch");
 // An audit.
 
 async function verdictOn(answer, language) {
-    const it = world({ language }), verdict = new Element("output"), session = new (it.get("Session"))(engineOf(answer));
+    const it = world({ language }), verdict = new Element("output"), Session = it.get("Session");
+    const session = new Session(engineOf(answer));
     await it.get("judge")(session, "records", verdict);
     return { kind: verdict.className, text: verdict.textContent };
 }
@@ -140,7 +142,8 @@ test("an audit that says so is legal or illegal", async () => {
     check(legal.text.startsWith("AUDIT,LEGAL,3 These are 3 legal turns"), legal.text);
     const wrong = await verdictOn({ status: 7, text: "AUDIT,REPLY,0\nas it is\nas it must be\n" });
     same(wrong.kind, "illegal", "a wrong turn");
-    check(wrong.text.startsWith("AUDIT,REPLY,0 Turn 0 is wrong.") && wrong.text.endsWith("as it is\nas it must be"), wrong.text);
+    check(wrong.text.startsWith("AUDIT,REPLY,0 Turn 0 is wrong."), wrong.text);
+    check(wrong.text.endsWith("as it is\nas it must be"), wrong.text);
     same((await verdictOn({ status: 7, text: "AUDIT,TURNS,2\n" })).kind, "illegal", "a wrong number");
 });
 
@@ -148,7 +151,8 @@ const UNJUDGED = [
     [{ status: 5, text: "" }, "There is not enough memory for this.", "Dafür reicht der Speicher nicht."],
     [GONE, "The engine gave no answer: Failed to fetch", "Das Programm gab keine Antwort: Failed to fetch"],
     [{ status: 4, text: "FAULT,U1,1\n" }, "These are not records.", "Das sind keine Aufzeichnungen."],
-    [{ status: 3, text: "FAULT,P2\n" }, "The engine ended with status 3. FAULT,P2", "Das Programm endete mit Status 3. FAULT,P2"],
+    [{ status: 3, text: "FAULT,P2\n" }, "The engine ended with status 3. FAULT,P2",
+        "Das Programm endete mit Status 3. FAULT,P2"],
     [{ status: 6, text: "" }, "The engine ended with status 6.", "Das Programm endete mit Status 6."],
 ];
 
@@ -219,7 +223,8 @@ test("rows that a marker of another kind takes are tried with markers for all jo
 });
 
 test("rows that need more markers are tried with 48, and others are refused at once", async () => {
-    same((await triedWith("XX", (kinds) => kinds === ALL ? null : "FAULT,T5,1,C1")).taken, [ALL], "rows refused with C1");
+    const few = (kinds) => kinds === ALL ? null : "FAULT,T5,1,C1";
+    same((await triedWith("XX", few)).taken, [ALL], "rows refused with C1");
     const { tried, taken, told } = await triedWith("DC", () => "FAULT,T5,1,C2");
     same([tried, taken, told.length], [["DC"], [], 1], "rows refused with C2");
     same((await triedWith("XX", () => "FAULT,T5,1,C3")).taken, [], "rows refused with C3 by all");
@@ -237,7 +242,8 @@ test("a file is told when the engine gives no answer", async () => {
 // A page whose films begin when a test lets them. `plays` are the films that were asked for.
 function kiosk() {
     const it = world({ hash: "#kiosk=1" }), plays = [], chosen = [];
-    const film = { films: ["one", "two", "three"], isOver: false, play: (name) => new Promise((begin) => plays.push({ name, begin })) };
+    const play = (name) => new Promise((begin) => plays.push({ name, begin }));
+    const film = { films: ["one", "two", "three"], isOver: false, play };
     const day = { begin: async () => {} };
     const page = { stages: { film, day }, choose: async (name) => { chosen.push(name); } };
     const made = new (it.get("Kiosk"))(page);
@@ -293,18 +299,22 @@ test("a film that was chosen during the last step of another plays", async () =>
     same(film.auto, true, "whether the new film plays");
 });
 
-// What was asked for ahead of a server. `replies` are what it answers, in order: a status of HTTP with a body, or an error.
+// What was asked for ahead of a server. `replies` are what it answers, in order: a status of HTTP with a body, or an
+// error.
 async function served(replies) {
     const asked = [], context = vm.createContext({
         location: { href: "http://127.0.0.1:8045/" }, URL, TextDecoder, TextEncoder, AbortController,
         fetch: (place, { body, signal }) => {
-            const { input } = JSON.parse(body), { wait, fails, code = 200, ...answer } = replies[asked.length] ?? { status: 0, text: "?" };
+            const { input } = JSON.parse(body), next = replies[asked.length] ?? { status: 0, text: "?" };
+            const { wait, fails, code = 200, ...answer } = next;
             asked.push(input);
-            const gone = new Promise((_, fail) => signal?.addEventListener("abort", () => setImmediate(fail, new Error("aborted"))));
+            const stopped = (fail) => () => setImmediate(fail, new Error("aborted"));
+            const gone = new Promise((_, fail) => signal?.addEventListener("abort", stopped(fail)));
             const reply = async () => {
                 await wait;
                 if (fails) throw GONE;
-                return { ok: code === 200, json: async () => answer, text: async () => "The server has too much to do.\n" };
+                const text = async () => "The server has too much to do.\n";
+                return { ok: code === 200, json: async () => answer, text };
             };
             return Promise.race([reply(), gone]);
         },
@@ -364,7 +374,8 @@ test("no style is an attribute, which the server's policy forbids", async () => 
     const it = world(), made = it.get("element")("p", { style: "--own:red", class: "a", hidden: true, title: null });
     same([made.attributes, made.style.cssText], [{ class: "a", hidden: "" }, "--own:red"], "the element");
     const scripts = readdirSync(`${EXHIBIT}/page`).filter((name) => /\.(js|html)$/.test(name));
-    const wrong = scripts.filter((name) => /\sstyle=|setAttribute\('style'|innerHTML|\son\w+="/.test(read(`page/${name}`)));
+    const inAttribute = /\sstyle=|setAttribute\('style'|innerHTML|\son\w+="/;
+    const wrong = scripts.filter((name) => inAttribute.test(read(`page/${name}`)));
     same(wrong, [], "files with a style or a listener in an attribute");
 });
 
@@ -391,5 +402,8 @@ async function main() {
     process.exitCode = Number(failed > 0);
 }
 
-process.on("unhandledRejection", (error) => { failed++; console.log(`FAILED  a promise that nobody awaits: ${error.message}`); });
+process.on("unhandledRejection", (error) => {
+    failed++;
+    console.log(`FAILED  a promise that nobody awaits: ${error.message}`);
+});
 main();
