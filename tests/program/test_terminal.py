@@ -150,9 +150,11 @@ class Progress(TerminalTest):
         self.assertTrue(screen.rest().endswith(b" seconds\r\n" + sentence), screen.shown)
 
     def test_not_of_a_short_run(self):
-        screen = self.terminal()
+        screen, begun = self.terminal(), time.monotonic()
         running = self.begun("replay", stderr=screen.end)
         self.assertEqual(running.communicate(DIAL, timeout=PATIENCE)[0], DIALLED)
+        if time.monotonic() - begun > 2:
+            self.skipTest("the machine is so busy that the run took more than two seconds")
         self.assertEqual(screen.rest(), b"")
 
     def test_not_shown(self):
