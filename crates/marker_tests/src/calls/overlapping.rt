@@ -7,7 +7,7 @@ use super::gates::{Board, Meeting, MeetingGate, Point, Tally};
 use super::*;
 use test_tools::check_eq;
 
-mod desks;
+mod at_own_desks;
 
 /// How often each meeting is tried.
 const TIMES: u32 = 200;
