@@ -80,7 +80,7 @@ fn check_desks<R: Threads + Wait + Sync + Abort>(rt: &R, alloc: Global, plan: &P
 fn desks_meet_at_their_gates(rt: HostRuntime) {
     let plan = example(&rt, rt.alloc());
     for case in CASES {
-        for _time in 0..TIMES {
+        for _time in 0..TIMES / 4 {
             check_desks(&rt, rt.alloc(), &plan, case);
         }
     }
