@@ -1,7 +1,8 @@
 -- a desk that frees only slots that it has
 use Rattle.std.proofs.Common.{◌≡◌, ℕ, Bool, true, false, List, [], ◌∷◌, ◌++◌, map, inl, inr, refl, sym, ◌∙◌, ap, subst, append_assoc}
-use Rattle.std.specs.Prelude.{◌==◌, Err, IfNone, IfOk, IfSome, None, Ok, Option, Result, Some, if◌then◌else◌, is_some}
+use Rattle.std.specs.Prelude.{◌==◌, Err, IfNone, IfOk, IfSome, None, Ok, Option, Result, Some, if◌then◌else◌, is_some, option_map, slice_get}
 use Rattle.std.proofs.lemmas.Bool.{eq-eqb}
+use Rattle.std.proofs.lemmas.Option.{slice_get-map}
 use Rattle.desks.specs.Desks.{as_record}
 use Rattle.desks.specs.Parts.{Begins}
 use Rattle.desks.specs.declared.progress.JobRecord.{JobRecord}
@@ -152,3 +153,10 @@ gave_half log log_after number slot more one = record {
 pub if_ok : {A E : Type 0} (P Q : A → Type 0) (r : Result A E) → ((a : A) → P a → Q a) → IfOk r P → IfOk r Q
 if_ok P Q (Ok a) follows holds = follows a holds
 if_ok P Q (Err e) follows holds = tt
+
+-- what holds of each item of a list by its place, and so of a part of it, holds in the list of these parts
+pub of_places : {X Y : Type 0} (f : X → Y) (Q : ℕ → X → Type 0) (P : Y → Type 0) (xs : List X) → ((i : ℕ) (x : X) → Q i x → P (f x)) → ((i : ℕ) → IfSome (slice_get xs i) (Q i)) → (i : ℕ) → IfSome (slice_get (map f xs) i) P
+of_places {X} f Q P xs follows each i = subst (λ o. IfSome o P) (sym (slice_get-map f xs i)) (at (slice_get xs i) (each i)) where
+  at : (o : Option X) → IfSome o (Q i) → IfSome (option_map f o) P
+  at None holds = tt
+  at (Some x) holds = follows i x holds
