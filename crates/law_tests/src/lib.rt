@@ -14,3 +14,5 @@ mod operations;
 mod queues;
 #[cfg(test)]
 mod slots_at_work;
+#[cfg(test)]
+mod tries;

@@ -141,7 +141,7 @@ fn words_agree(words: &[u64], turns: usize, busy: Option<u64>) -> bool {
 }
 
 /// A room with its desks 0 and 1.
-fn room_of_two(alloc: Global) -> Result<(SlotRoom, SlotDesk, SlotDesk), Fail>
+pub fn room_of_two(alloc: Global) -> Result<(SlotRoom, SlotDesk, SlotDesk), Fail>
     ensures count { IfOk result (λ opened. opened.0.count ≡ 2) }
     ensures zero { IfOk result (λ opened. opened.1 ≡ new_desk opened.0 0) }
     ensures one { IfOk result (λ opened. opened.2 ≡ new_desk opened.0 1) }

@@ -2,3 +2,4 @@ pub mod SlotWalks
 mod OwnSlots
 mod Owners
 mod TakenTwice
+mod Rounds

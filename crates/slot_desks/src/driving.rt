@@ -1,12 +1,11 @@
 //! Desks that take slots and free them again.
 
-ghost use Rattle.std.specs.Prelude.{◌≡◌, ◌%◌, ◌==◌, [], if◌then◌else◌, IfNone, IfSome};
+ghost use Rattle.std.specs.Prelude.{◌≡◌, ◌<◌, [], ◌∷◌, IfNone, IfSome, false, true, vec_capacity, vec_len};
 ghost use Rattle.desks.specs.Parts.{Begins};
 ghost use Rattle.desks.specs.Views.{IsDeskOf};
-ghost use Rattle.slot_desks.specs.Driving.{LogsGiving, LogsJob};
+ghost use Rattle.slot_desks.specs.Driving.{AreSlots, CantGoOn, HasDoneRounds, IsFree, LogsGiving, LogsJob, LogsRound, taking_in};
 ghost use Rattle.slot_desks.specs.Ended.{GivesOwn};
 ghost use Rattle.slots.specs.Few.{list_of};
-ghost use Rattle.slots.specs.declared.job.Job.TheVariants.{Give, Take, TakeBoth};
 ghost use Rattle.slots.specs.System.{IsJob, slots};
 ghost use Rattle.workers.specs.Workers.{IsLogOf, records};
 
@@ -28,8 +27,8 @@ pub type SlotRecord = JobRecord<Job, Taken>;
 /// A desk of the slots at work, and a log of the jobs that it has ended.
 pub type Shift = workers::Shift<SlotJobs>;
 
-/// Does one job, logs its record, and returns the slots that it took. None if the log has no room,
-/// the desk is at another job, or the job has not ended.
+/// Does one job, logs its record, and returns the slots that it took. None if the worker can't go
+/// on, or the desk is at another job.
 fn work(room: &SlotRoom, shift: &mut Shift, number: u64, job: Job) -> Option<UpToTwo<u32>>
     requires desk { IsDeskOf shift.old.desk room.now tt }
     requires job { IsJob job }
@@ -39,65 +38,68 @@ fn work(room: &SlotRoom, shift: &mut Shift, number: u64, job: Job) -> Option<UpT
     ensures log { IsLogOf slots shift.new.desk shift.new.log.items }
     ensures seen { Begins shift.old.desk.seen shift.new.desk.seen }
     ensures done { IfSome result (λ taken.
-        LogsJob shift.old.log.items shift.new.log.items job (list_of taken)) }
+        LogsJob shift.old.log.items shift.new.log.items number job (list_of taken)) }
+    ensures slots { IfSome result (λ taken. AreSlots (list_of taken)) }
     ensures none { IfNone result (shift.new.log.items ≡ shift.old.log.items) }
+    ensures free { IsFree shift.old.desk → IfSome result (λ _. IsFree shift.new.desk) }
+    ensures stuck { IsFree shift.old.desk → IfNone result
+        (CantGoOn (vec_len shift.new.log) (vec_capacity shift.new.log) shift.new.desk) }
 {
     if !shift.work(room, &(), number, job, &Yielding) {
         return None;
     }
+    // Called for its clause that what the desk has seen is legal.
+    let _number = shift.desk.number();
     let Some(reported) = shift.last() else {
         unreachable!()
     };
     Some(reported.reply.slots())
 }
 
-/// Frees a slot and logs the record, like `work`. None also if there is no slot of this number.
-fn give(room: &SlotRoom, shift: &mut Shift, number: u64, slot: u32) -> Option<UpToTwo<u32>>
+/// Frees a slot and logs the record, like `work`. Returns false also if there is no slot of this
+/// number.
+fn give(room: &SlotRoom, shift: &mut Shift, number: u64, slot: u32) -> bool
     requires desk { IsDeskOf shift.old.desk room.now tt }
     requires log { IsLogOf slots shift.old.desk shift.old.log.items }
     ensures desk { IsDeskOf shift.new.desk room.now tt }
     ensures number { shift.new.desk.number ≡ shift.old.desk.number }
     ensures log { IsLogOf slots shift.new.desk shift.new.log.items }
     ensures seen { Begins shift.old.desk.seen shift.new.desk.seen }
-    ensures done { IfSome result (λ taken.
-        LogsJob shift.old.log.items shift.new.log.items (Give slot) (list_of taken)) }
-    ensures none { IfNone result (shift.new.log.items ≡ shift.old.log.items) }
+    ensures given { LogsGiving shift.old.log.items shift.new.log.items number (slot ∷ []) result }
+    ensures free { IsFree shift.old.desk → result ≡ true → IsFree shift.new.desk }
+    ensures stuck { IsFree shift.old.desk → slot < SLOT_COUNT → result ≡ false →
+        CantGoOn (vec_len shift.new.log) (vec_capacity shift.new.log) shift.new.desk }
 {
-    if slot < SLOT_COUNT {
-        work(room, shift, number, Job::Give(slot))
-    } else {
-        None
-    }
+    slot < SLOT_COUNT && work(room, shift, number, Job::Give(slot)).is_some()
 }
 
-/// Frees the slots that a job took, in their order, up to the first for which that fails.
-fn give_each(
-    room: &SlotRoom,
-    shift: &mut Shift,
-    number: u64,
-    taken: UpToTwo<u32>,
-) -> Option<UpToTwo<u32>>
+/// Frees the slots that a job took, in their order, up to the first for which that fails. Returns
+/// whether it freed all.
+fn give_each(room: &SlotRoom, shift: &mut Shift, number: u64, taken: UpToTwo<u32>) -> bool
     requires desk { IsDeskOf shift.old.desk room.now tt }
     requires log { IsLogOf slots shift.old.desk shift.old.log.items }
     ensures desk { IsDeskOf shift.new.desk room.now tt }
     ensures number { shift.new.desk.number ≡ shift.old.desk.number }
     ensures log { IsLogOf slots shift.new.desk shift.new.log.items }
     ensures seen { Begins shift.old.desk.seen shift.new.desk.seen }
-    ensures given { LogsGiving shift.old.log.items shift.new.log.items (list_of taken) }
+    ensures given { LogsGiving shift.old.log.items shift.new.log.items number (list_of taken)
+        result }
+    ensures free { IsFree shift.old.desk → result ≡ true → IsFree shift.new.desk }
+    ensures stuck { IsFree shift.old.desk → AreSlots (list_of taken) → result ≡ false →
+        CantGoOn (vec_len shift.new.log) (vec_capacity shift.new.log) shift.new.desk }
 {
     match taken {
-        UpToTwo::Empty => None,
+        UpToTwo::Empty => true,
         UpToTwo::One(slot) => give(room, shift, number, slot),
         UpToTwo::Two(slot, other) => {
-            give(room, shift, number, slot)?;
-            give(room, shift, number, other)
+            give(room, shift, number, slot) && give(room, shift, number, other)
         }
     }
 }
 
 /// The job of a round: in even rounds to take one slot, in odd rounds one of each bank.
 fn job_of_round(round: u64) -> Job
-    ensures { result ≡ (if round % 2 == 0 then Take else TakeBoth) }
+    ensures { result ≡ taking_in round }
 {
     if round % 2 == 0 {
         Job::Take
@@ -106,8 +108,8 @@ fn job_of_round(round: u64) -> Job
     }
 }
 
-/// One round: takes slots and frees them.
-fn take_and_give_once(room: &SlotRoom, shift: &mut Shift, round: u64)
+/// One round: takes slots and frees them. Returns false if the worker can't go on.
+fn take_and_give_once(room: &SlotRoom, shift: &mut Shift, round: u64) -> bool
     requires desk { IsDeskOf shift.old.desk room.now tt }
     requires log { IsLogOf slots shift.old.desk shift.old.log.items }
     requires own { GivesOwn [] (records shift.old.log.items) }
@@ -115,14 +117,19 @@ fn take_and_give_once(room: &SlotRoom, shift: &mut Shift, round: u64)
     ensures number { shift.new.desk.number ≡ shift.old.desk.number }
     ensures log { IsLogOf slots shift.new.desk shift.new.log.items }
     ensures own { GivesOwn [] (records shift.new.log.items) }
+    ensures round { LogsRound shift.old.log.items shift.new.log.items round result }
+    ensures free { IsFree shift.old.desk → result ≡ true → IsFree shift.new.desk }
+    ensures stuck { IsFree shift.old.desk → result ≡ false →
+        CantGoOn (vec_len shift.new.log) (vec_capacity shift.new.log) shift.new.desk }
 {
-    if let Some(taken) = work(room, shift, round, job_of_round(round)) {
-        give_each(room, shift, round, taken);
-    }
+    let Some(taken) = work(room, shift, round, job_of_round(round)) else {
+        return false;
+    };
+    give_each(room, shift, round, taken)
 }
 
 /// Takes slots and frees them, `rounds` times, and then takes a slot to keep. The desk frees only
-/// slots that it has taken. If one of its jobs does not end, the desk stays at that job.
+/// slots that it has taken. The worker stops early if it can't go on.
 pub fn take_and_give(room: &SlotRoom, mut shift: Shift, rounds: u64) -> Shift
     requires desk { IsDeskOf shift.desk room.now tt }
     requires log { IsLogOf slots shift.desk shift.log.items }
@@ -131,9 +138,14 @@ pub fn take_and_give(room: &SlotRoom, mut shift: Shift, rounds: u64) -> Shift
     ensures number { result.desk.number ≡ shift.desk.number }
     ensures log { IsLogOf slots result.desk result.log.items }
     ensures own { GivesOwn [] (records result.log.items) }
+    ensures rounds { shift.log.items ≡ [] → IsFree shift.desk →
+        HasDoneRounds rounds result.log.items
+        (CantGoOn (vec_len result.log) (vec_capacity result.log) result.desk) }
 {
     for round in 0..rounds {
-        take_and_give_once(room, &mut shift, round);
+        if !take_and_give_once(room, &mut shift, round) {
+            return shift;
+        }
     }
     work(room, &mut shift, rounds, Job::Take);
     shift

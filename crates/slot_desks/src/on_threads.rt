@@ -1,9 +1,10 @@
 //! Desks that take slots on threads at the same time, and the shutting of their room.
 
 ghost use Rattle.std.specs.List.{list_all};
-ghost use Rattle.std.specs.Prelude.{◌≡◌, ◌<◌, [], IfErr, IfOk, map, true, vec_len};
+ghost use Rattle.std.specs.Prelude.{◌≡◌, ◌<◌, ℕ, [], IfErr, IfOk, IfSome, map, slice_get, true, vec_capacity, vec_len};
 ghost use Rattle.desks.specs.Reports.{HaveLogs};
 ghost use Rattle.desks.specs.Views.{AreNew, IsDeskOf};
+ghost use Rattle.slot_desks.specs.Driving.{CantGoOn, HasDoneRounds, IsFree};
 ghost use Rattle.slot_desks.specs.Ended.{AllGiveOwn, GivesOwn, HaveEnded};
 ghost use Rattle.slots.specs.System.{slots};
 ghost use Rattle.turns.specs.Runs.{is_available};
@@ -17,7 +18,7 @@ use std::thread::Threads;
 use workers::{NotShut, at_once, shut_if_idle};
 
 /// Has all desks take slots and free them, each on a thread of its own if one can be made.
-/// Returns them in their order, with their logs.
+/// Returns them in their order, with their logs. A worker stops early if it can't go on.
 pub fn take_and_give_at_once<R: Threads + Sync>(
     rt: &R,
     alloc: Global,
@@ -33,6 +34,9 @@ pub fn take_and_give_at_once<R: Threads + Sync>(
         (map (λ shift. records shift.log.items) shifts.items)) }
     ensures own { IfOk result (λ shifts.
         AllGiveOwn (map (λ shift. records shift.log.items) shifts.items)) }
+    ensures rounds { IfOk result (λ shifts. (i : ℕ) → IfSome (slice_get shifts.items i)
+        (λ shift. HasDoneRounds rounds shift.log.items
+        (CantGoOn (vec_len shift.log) (vec_capacity shift.log) shift.desk))) }
     ensures len { IfOk result (λ shifts. vec_len shifts ≡ vec_len desks) }
 {
     at_once(
@@ -49,6 +53,9 @@ pub fn take_and_give_at_once<R: Threads + Sync>(
             ensures number { result.desk.number ≡ shift.desk.number }
             ensures log { IsLogOf slots result.desk result.log.items }
             ensures own { GivesOwn [] (records result.log.items) }
+            ensures rounds { shift.log.items ≡ [] → IsFree shift.desk →
+                HasDoneRounds rounds result.log.items
+                (CantGoOn (vec_len result.log) (vec_capacity result.log) result.desk) }
         { take_and_give(room, shift, rounds) },
     )
 }

@@ -1,2 +1,3 @@
 pub mod Shifts
 pub mod Logs
+pub mod Trying

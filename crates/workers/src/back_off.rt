@@ -6,13 +6,19 @@ use std::thread;
 
 /// A policy of workers whose jobs take long: how long a try lasts, and what comes between tries.
 pub trait BackOff {
+    ghost use Rattle.std.specs.Prelude.{ℕ, Bool, ⊤};
+
+    // What the policy may answer after a number of tries.
+    ghost Answers: { Self → ℕ → Bool → Type 0 } = { λ _ _ _. ⊤ };
+
     /// The most steps that a desk of this number makes in one try, before it gives back what it
     /// holds.
     fn patience(&self, desk: u32) -> u32;
 
     /// Returns whether to try again after `made` tries. The desk has given back what it held, so
     /// others may go on meanwhile: this may yield, sleep or spin.
-    fn try_again(&self, made: u64) -> bool;
+    fn try_again(&self, made: u64) -> bool
+        ensures { Answers self.now made result };
 }
 
 /// The number of tries after which `Yielding` gives up.
@@ -23,6 +29,10 @@ const TRIES: u64 = 100_000_000;
 pub struct Yielding;
 
 impl BackOff for Yielding {
+    ghost use Rattle.workers.specs.Tries.{AnswersYielding};
+
+    ghost Answers = { λ _ made again. AnswersYielding made again };
+
     /// Each of up to eight desks has a patience of its own, lest two stay in lockstep.
     fn patience(&self, desk: u32) -> u32
         ensures { result ≡ 30 + 7 * (desk % 8) }

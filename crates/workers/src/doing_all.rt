@@ -1,9 +1,11 @@
 //! Desks whose workers do jobs one after another, on threads at the same time.
 
-ghost use Rattle.std.specs.Prelude.{◌≡◌, ℕ, [], IfOk, IfSome, map, slice_get, vec_len};
+ghost use Rattle.std.specs.Prelude.{◌≡◌, ℕ, [], IfOk, IfSome, map, slice_get, true, vec_capacity, vec_len};
 ghost use Rattle.desks.specs.Reports.{HaveLogs};
 ghost use Rattle.desks.specs.Views.{AreNew, IsDeskOf};
+ghost use Rattle.turns.specs.Runs.{is_available};
 ghost use Rattle.turns.specs.System.{system_of};
+ghost use Rattle.workers.specs.Tries.{HasStopped};
 ghost use Rattle.workers.specs.Workers.{AreAssigned, AreAtWork, AssignsJobs, IsLogOf, records};
 
 use crate::back_off::BackOff;
@@ -15,8 +17,8 @@ use std::alloc::{AllocError, Global};
 use std::marker::{Send, Sync};
 use std::thread::Threads;
 
-/// Does the jobs that `next_job` names, one after another, and logs each. Stops early at a job that
-/// does not end.
+/// Does the jobs that `next_job` names, one after another, and logs each, until it names none or
+/// the worker is stuck.
 fn do_jobs<F: Jobs, N: Fn(u32, u64) -> Option<F::Job>, B: BackOff>(
     room: &Room<F>,
     setting: &F::Setting,
@@ -33,6 +35,10 @@ fn do_jobs<F: Jobs, N: Fn(u32, u64) -> Option<F::Job>, B: BackOff>(
     ensures number { result.desk.number ≡ shift.desk.number }
     ensures log { IsLogOf (system_of (F.system setting.now)) result.desk result.log.items }
     ensures assigned { AreAssigned (N.post next_job.now result.desk.number) result.log.items }
+    ensures stopped { is_available (system_of (F.system setting.now)) shift.desk.actor ≡ true →
+        HasStopped (system_of (F.system setting.now)) (B.Answers back_off.now)
+        (N.post next_job.now result.desk.number) (vec_len result.log) (vec_capacity result.log)
+        result.desk.actor }
 {
     let desk = shift.desk.number();
     for ended in 0..u64::MAX {
@@ -78,6 +84,10 @@ where
         (map (λ shift. records shift.log.items) shifts.items)) }
     ensures assigned { IfOk result (λ shifts. (i : ℕ) → IfSome (slice_get shifts.items i)
         (λ shift. AreAssigned (N.post next_job.now shift.desk.number) shift.log.items)) }
+    ensures stopped { IfOk result (λ shifts. (i : ℕ) → IfSome (slice_get shifts.items i)
+        (λ shift. HasStopped (system_of (F.system setting.now)) (B.Answers back_off.now)
+        (N.post next_job.now shift.desk.number) (vec_len shift.log) (vec_capacity shift.log)
+        shift.desk.actor)) }
     ensures len { IfOk result (λ shifts. vec_len shifts ≡ vec_len desks) }
 {
     at_once(
@@ -98,6 +108,10 @@ where
                 result.log.items }
             ensures assigned { AreAssigned (N.post next_job.entry.now result.desk.number)
                 result.log.items }
+            ensures stopped { is_available (system_of (F.system setting.entry.now))
+                shift.desk.actor ≡ true → HasStopped (system_of (F.system setting.entry.now))
+                (B.Answers back_off.entry.now) (N.post next_job.entry.now result.desk.number)
+                (vec_len result.log) (vec_capacity result.log) result.desk.actor }
         { do_jobs(room.lend(), setting, shift, next_job, back_off) },
     )
 }
@@ -105,8 +119,8 @@ where
 /// Has a worker at each desk of a new room do jobs, one after another, each worker on a thread of
 /// its own if one can be made. `next_job` is told a desk's number and how many jobs its worker has
 /// ended, and returns the worker's next job, or None once its work is done. Returns the shifts in
-/// the order of the desks. A worker stops early at a job that does not end: if the policy gives up,
-/// or its log has no room.
+/// the order of the desks. A worker stops early if it is stuck: if the policy gives up, or its log
+/// has no room.
 pub fn do_all<F, N, B, R>(
     rt: &R,
     alloc: Global,
@@ -137,6 +151,10 @@ where
         (map (λ shift. records shift.log.items) shifts.items)) }
     ensures assigned { IfOk result (λ shifts. (i : ℕ) → IfSome (slice_get shifts.items i)
         (λ shift. AreAssigned (N.post next_job.now shift.desk.number) shift.log.items)) }
+    ensures stopped { IfOk result (λ shifts. (i : ℕ) → IfSome (slice_get shifts.items i)
+        (λ shift. HasStopped (system_of (F.system setting.now)) (B.Answers back_off.now)
+        (N.post next_job.now shift.desk.number) (vec_len shift.log) (vec_capacity shift.log)
+        shift.desk.actor)) }
     ensures len { IfOk result (λ shifts. vec_len shifts ≡ vec_len desks) }
 {
     do_all_in(rt, alloc, room, setting, desks, next_job, back_off)

@@ -1,8 +1,12 @@
 //! Drives a desk to the end of its job.
 
-ghost use Rattle.std.specs.Prelude.{◌≡◌, ◌≤◌, ◌^◌, IfSome, length};
+ghost use Rattle.std.specs.Prelude.{◌≡◌, ◌≤◌, ◌^◌, IfSome, false, is_some, length, true};
+ghost use Rattle.desks.specs.Met.{HasLearned};
+ghost use Rattle.desks.specs.Running.{IsOperating};
 ghost use Rattle.desks.specs.Views.{IsDeskOf};
+ghost use Rattle.turns.specs.Runs.{is_available};
 ghost use Rattle.turns.specs.System.{system_of};
+ghost use Rattle.workers.specs.Tries.{HasDone, HasPersisted, IsTry, MakesUpTo};
 ghost use Rattle.workers.specs.Workers.{HasFinished, IsAfter};
 
 use crate::back_off::BackOff;
@@ -19,6 +23,7 @@ pub fn finish<F: Jobs>(
     requires { IsDeskOf desk.old room.now setting.now }
     ensures desk { IsDeskOf desk.new room.now setting.now }
     ensures finished { HasFinished (system_of (F.system setting.now)) desk.old desk.new result }
+    ensures made { MakesUpTo (system_of (F.system setting.now)) most desk.old desk.new result }
 {
     laws::desks_report_their_records::<F>();
     laws::reports_are_of_assigned_jobs::<F>();
@@ -32,9 +37,34 @@ pub fn finish<F: Jobs>(
     None
 }
 
+/// Makes the steps past the turn until the job has ended, and returns the job's record. None of
+/// them can be denied. Returns None, and makes no step, if there are none.
+fn finish_past_turn<F: Jobs>(
+    room: &Room<F>,
+    setting: &F::Setting,
+    desk: &mut Desk<F>,
+) -> Option<JobRecord<F::Job, F::Reply>>
+    requires { IsDeskOf desk.old room.now setting.now }
+    ensures desk { IsDeskOf desk.new room.now setting.now }
+    ensures finished { HasFinished (system_of (F.system setting.now)) desk.old desk.new result }
+    ensures free { IfSome result (λ _.
+        is_available (system_of (F.system setting.now)) desk.new.actor ≡ true) }
+    ensures ended { IsOperating desk.old.actor → is_some result ≡ true }
+{
+    laws::desks_report_their_records::<F>();
+    laws::reports_are_of_assigned_jobs::<F>();
+    while desk.is_operating(setting) {
+        if let Progress::Finished(reported) = desk.advance(room, setting) {
+            return Some(reported);
+        }
+    }
+    None
+}
+
 /// Makes the desk's steps like `finish`. If its job has not ended by then, the desk gives back what
-/// it holds, so that other desks can go on.
-fn finish_or_give_back<F: Jobs>(
+/// it holds, so that other desks can go on. A job past its turn can't be rolled back, so it is
+/// brought to its end instead.
+fn try_once<F: Jobs>(
     room: &Room<F>,
     setting: &F::Setting,
     desk: &mut Desk<F>,
@@ -42,12 +72,16 @@ fn finish_or_give_back<F: Jobs>(
 ) -> Option<JobRecord<F::Job, F::Reply>>
     requires { IsDeskOf desk.old room.now setting.now }
     ensures desk { IsDeskOf desk.new room.now setting.now }
-    ensures finished { HasFinished (system_of (F.system setting.now)) desk.old desk.new result }
+    ensures tried { is_available (system_of (F.system setting.now)) desk.old.actor ≡ false →
+        IsTry (system_of (F.system setting.now)) desk.old desk.new result }
 {
     laws::desks_report_their_records::<F>();
     laws::reports_are_of_assigned_jobs::<F>();
     if let Some(reported) = finish(room, setting, desk, most) {
         return Some(reported);
+    }
+    if desk.is_operating(setting) {
+        return finish_past_turn(room, setting, desk);
     }
     desk.give_back(room, setting);
     None
@@ -65,6 +99,8 @@ pub fn persist<F: Jobs, B: BackOff>(
     requires { IsDeskOf desk.old room.now setting.now }
     ensures desk { IsDeskOf desk.new room.now setting.now }
     ensures finished { HasFinished (system_of (F.system setting.now)) desk.old desk.new result }
+    ensures persisted { HasPersisted (system_of (F.system setting.now)) (B.Answers back_off.now)
+        desk.old desk.new result }
 {
     laws::desks_report_their_records::<F>();
     if desk.is_idle() {
@@ -72,7 +108,7 @@ pub fn persist<F: Jobs, B: BackOff>(
     }
     let patience = back_off.patience(desk.number());
     for made in 1..u64::MAX {
-        if let Some(reported) = finish_or_give_back(room, setting, desk, patience) {
+        if let Some(reported) = try_once(room, setting, desk, patience) {
             return Some(reported);
         }
         if !back_off.try_again(made) {
@@ -83,7 +119,7 @@ pub fn persist<F: Jobs, B: BackOff>(
 }
 
 /// Learns a note, and then does a job: the job's turn comes after all turns that the note has,
-/// whichever thread wrote it. None if the desk is at another job, or the job has not ended.
+/// whichever thread wrote it. Returns None if the desk is at another job, or the policy gives up.
 pub fn do_after<F: Jobs, B: BackOff>(
     room: &Room<F>,
     setting: &F::Setting,
@@ -104,6 +140,11 @@ pub fn do_after<F: Jobs, B: BackOff>(
         length desk.new.seen ≤ 2 ^ 64 → length note.seen ≤ reported.turn) }
     ensures its_job { IfSome result
         (λ reported. (reported.number ≡ number) × (reported.job ≡ job)) }
+    ensures done { (learned : _) × (learned ≡ record (desk.old) { seen = learned.seen })
+        × HasLearned (system_of (F.system setting.now)) desk.old.number desk.old.seen note.seen
+        learned.seen
+        × HasDone (system_of (F.system setting.now)) (B.Answers back_off.now) learned desk.new
+        number job result }
 {
     laws::desks_report_their_records::<F>();
     laws::reports_are_of_assigned_jobs::<F>();

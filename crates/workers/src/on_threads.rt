@@ -2,7 +2,7 @@
 
 ghost use Rattle.std.specs.Prelude.{◌≡◌, ℕ, [], IfOk, IfSome, map, slice_get, vec_len};
 ghost use Rattle.desks.specs.Reports.{HaveLogs};
-ghost use Rattle.desks.specs.Views.{AreNew, IsDeskOf};
+ghost use Rattle.desks.specs.Views.{AreNew, IsDeskOf, new_desk};
 ghost use Rattle.turns.specs.System.{system_of};
 ghost use Rattle.workers.specs.Workers.{AreAtWork, IsLogOf, records};
 
@@ -68,7 +68,8 @@ where
         (map (λ shift. shift.desk) shifts.items)
         (map (λ shift. records shift.log.items) shifts.items)) }
     ensures each { IfOk result (λ shifts. (i : ℕ) → IfSome (slice_get shifts.items i)
-        (λ after. (shift : _) × W.Ends routine.now shift after)) }
+        (λ after. (shift : _) × (shift.desk ≡ new_desk _room.now i) × (shift.log.items ≡ [])
+        × W.Ends routine.now shift after)) }
     ensures len { IfOk result (λ shifts. vec_len shifts ≡ vec_len desks) }
 {
     let shifts = map_vec(
@@ -77,7 +78,8 @@ where
         &|desk: Desk<F>| -> Shift<F>
             requires { (shift : _) → shift.desk ≡ desk → shift.log.items ≡ []
                 → W.Begins routine.now shift }
-            ensures { (shift : _) × (shift.desk ≡ desk) × W.Ends routine.entry.now shift result }
+            ensures { (shift : _) × (shift.desk ≡ desk) × (shift.log.items ≡ [])
+                × W.Ends routine.entry.now shift result }
         { routine.run(Shift::new(alloc, desk)) },
     )?;
     Ok(shifts)

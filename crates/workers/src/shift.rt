@@ -6,6 +6,7 @@ ghost use Rattle.desks.specs.Parts.{Begins};
 ghost use Rattle.desks.specs.Reports.{job_of};
 ghost use Rattle.desks.specs.Views.{IsDeskOf, new_desk};
 ghost use Rattle.turns.specs.System.{system_of};
+ghost use Rattle.workers.specs.Tries.{HasDone, HasLogged, HasPersisted};
 ghost use Rattle.workers.specs.Workers.{AreNewDesks, HasLast, IsLogOf, LogsOne};
 
 use crate::back_off::BackOff;
@@ -33,7 +34,7 @@ impl<F: Jobs> Shift<F> {
     }
 
     /// Brings the job under way to its end, and logs its record as the last. Returns false if the
-    /// log has no room, there is no such job, or it has not ended.
+    /// log has no room, there is no such job, or the policy gives up.
     pub fn go_on<B: BackOff>(&mut self, room: &Room<F>, setting: &F::Setting, back_off: &B) -> bool
         requires desk { IsDeskOf self.old.desk room.now setting.now }
         requires log { IsLogOf (system_of (F.system setting.now)) self.old.desk
@@ -46,6 +47,13 @@ impl<F: Jobs> Shift<F> {
             → job_of (system_of (F.system setting.now)) self.old.desk.actor ≡ Some (number, job)
             → LogsOne self.old.log.items self.new.log.items number job }
         ensures none { result ≡ false → self.new.log.items ≡ self.old.log.items }
+        ensures logged { HasLogged (system_of (F.system setting.now))
+            (HasPersisted (system_of (F.system setting.now)) (B.Answers back_off.now)
+            self.old.desk self.new.desk)
+            ((vec_len self.old.log ≡ vec_capacity self.old.log)
+            × (vec_capacity self.new.log ≡ vec_capacity self.old.log)
+            × (self.new.desk ≡ self.old.desk))
+            self.old.log.items self.new.log.items result }
     {
         laws::desks_report_their_records::<F>();
         // The job goes on only if its record has room.
@@ -60,7 +68,7 @@ impl<F: Jobs> Shift<F> {
     }
 
     /// Does one job and logs its record, as the last. Returns false if the log has no room, the
-    /// desk is at another job, or the job has not ended.
+    /// desk is at another job, or the policy gives up.
     pub fn work<B: BackOff>(
         &mut self,
         room: &Room<F>,
@@ -80,6 +88,13 @@ impl<F: Jobs> Shift<F> {
         ensures done { result ≡ true →
             LogsOne self.old.log.items self.new.log.items number job }
         ensures none { result ≡ false → self.new.log.items ≡ self.old.log.items }
+        ensures logged { HasLogged (system_of (F.system setting.now))
+            (HasDone (system_of (F.system setting.now)) (B.Answers back_off.now)
+            self.old.desk self.new.desk number job)
+            ((vec_len self.old.log ≡ vec_capacity self.old.log)
+            × (vec_capacity self.new.log ≡ vec_capacity self.old.log)
+            × (self.new.desk ≡ self.old.desk))
+            self.old.log.items self.new.log.items result }
     {
         laws::desks_report_their_records::<F>();
         laws::reports_are_of_assigned_jobs::<F>();

@@ -1,5 +1,6 @@
 use Rattle.std.proofs.Common.{◌≡◌, []}
 use Rattle.desks.specs.Views.{IsDeskOf}
+use Rattle.slot_desks.specs.Driving.{AreRounds, IsFree}
 use Rattle.slot_desks.specs.Ended.{GivesOwn}
 use Rattle.slots.specs.System.{slots}
 use Rattle.workers.specs.Workers.{IsLogOf, records}
@@ -11,4 +12,6 @@ invariant-loop-round l = record {
   log : IsLogOf slots l.shift.desk l.shift.log.items;
   own : GivesOwn [] (records l.shift.log.items);
   number : l.shift.desk.number ≡ l.fn.shift.desk.number;
+  free : IsFree l.fn.shift.desk → IsFree l.shift.desk;
+  done : l.fn.shift.log.items ≡ [] → AreRounds l.round l.shift.log.items;
 }

@@ -1,5 +1,7 @@
 use Rattle.std.proofs.Common.{◌≡◌, length}
+use Rattle.std.specs.Prelude.{true}
 use Rattle.desks.specs.Views.{IsDeskOf}
+use Rattle.turns.specs.Runs.{is_available}
 use Rattle.turns.specs.System.{system_of}
 use Rattle.workers.specs.Workers.{AreAssigned, IsLogOf}
 use Rattle.workers.proofs.doing_all.do_jobs.Given as goal
@@ -11,4 +13,6 @@ invariant-loop-ended g l = record {
   log : IsLogOf (system_of (g.F.Jobs.system l.setting)) l.shift.desk l.shift.log.items;
   assigned : AreAssigned (goal.N-post g l.next_job l.fn.shift.desk.number) l.shift.log.items;
   count : length l.shift.log.items ≡ l.ended;
+  free : is_available (system_of (g.F.Jobs.system l.setting)) l.fn.shift.desk.actor ≡ true
+      → is_available (system_of (g.F.Jobs.system l.setting)) l.shift.desk.actor ≡ true;
 }

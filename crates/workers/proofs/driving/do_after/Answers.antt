@@ -1,12 +1,15 @@
-use Rattle.std.proofs.Common.{◌≡◌, ◌∙◌, List, ap, subst}
-use Rattle.std.specs.Prelude.{option_to_list}
+use Rattle.std.proofs.Common.{◌≡◌, ◌∙◌, List, ap, refl, subst, sym}
+use Rattle.std.specs.Prelude.{false, option_to_list, true}
+use Rattle.turns.specs.Attempt.{begin}
+use Rattle.turns.specs.Runs.{is_available}
 use Rattle.turns.specs.Law.{IsLegal}
 use Rattle.turns.specs.System.{system_of}
-use Rattle.turns.specs.World.{RecordOf}
+use Rattle.turns.specs.World.{Does, RecordOf}
 use Rattle.desks.specs.Desks.{assigned_if}
 use Rattle.desks.specs.Reports.{HasWorked}
 use Rattle.workers.specs.Workers.{records}
 use Rattle.workers.proofs.Logs.{after_noted, behind_noted}
+use Rattle.workers.proofs.Trying.{done_free, not_both}
 use Rattle.workers.proofs.driving.do_after.Goals as goal
 
 pub returns-clause-after : goal.returns-clause-after
@@ -41,3 +44,29 @@ returns-clause-behind g c =
     (λ reported' r. laws.after setting desk.number desk.actor after.actor learned.seen after.seen reported' r)
     c.learn.ensures.learned.note_begins (subst (λ s. desk.actor ≡ assigned_if (system_of (g.F.Jobs.system s)) c.assign.result c.args.number c.args.job learned.actor) (ap (λ d. d.setting) c.learn.ensures.same ∙ c.requires.desk.desk_is) (ap (λ d. d.actor) c.assign.ensures.assigned)) c.if-not-assign.false legal
     (subst (λ (s : List (RecordOf O)). HasWorked O desk.number desk.actor after.actor s after.seen (records (option_to_list reported))) seen c.persist-reported.ensures.finished.worked)
+
+pub returns-then-not-assign-clause-done : goal.returns-then-not-assign-clause-done
+returns-then-not-assign-clause-done g c =
+    let setting = c.args.setting.now in
+    let O = system_of (g.F.Jobs.system setting) in
+    let learned = c.learn.new.self in
+    let taken = sym c.assign.ensures.free ∙ c.if-not-assign.true in
+    let is = ap (λ d. d.setting) c.learn.ensures.same ∙ c.requires.desk.desk_is in (
+      learned,
+      c.learn.ensures.same,
+      c.learn.ensures.learned,
+      record {
+        busy = λ busy. (subst (λ b. c.assign.new.self ≡ record learned { actor = assigned_if (system_of (g.F.Jobs.system learned.setting)) b c.args.number c.args.job learned.actor }) c.if-not-assign.true c.assign.ensures.assigned, refl);
+        tried = λ free. absurd (not_both _ free (subst (λ s. is_available (system_of (g.F.Jobs.system s)) learned.actor ≡ false) is taken));
+      },
+    )
+
+pub returns-clause-done : goal.returns-clause-done
+returns-clause-done g c =
+    let setting = c.args.setting.now in
+    let O = system_of (g.F.Jobs.system setting) in
+    let learned = c.learn.new.self in
+    let taken = sym c.assign.ensures.free ∙ c.if-not-assign.false in
+    let is = ap (λ d. d.setting) c.learn.ensures.same ∙ c.requires.desk.desk_is in
+    let begun : c.assign.new.self ≡ record learned { actor = Does c.args.number (begin O c.args.job) } = subst (λ s. c.assign.new.self ≡ record learned { actor = assigned_if (system_of (g.F.Jobs.system s)) true c.args.number c.args.job learned.actor }) is (subst (λ b. c.assign.new.self ≡ record learned { actor = assigned_if (system_of (g.F.Jobs.system learned.setting)) b c.args.number c.args.job learned.actor }) c.if-not-assign.false c.assign.ensures.assigned) in
+    (learned, c.learn.ensures.same, c.learn.ensures.learned, done_free O (g.B.BackOff.Answers c.args.back_off.now) learned c.assign.new.self c.persist-reported.new.desk c.args.number c.args.job c.persist-reported.result (subst (λ s. is_available (system_of (g.F.Jobs.system s)) learned.actor ≡ true) is taken) begun c.persist-reported.ensures.persisted)

@@ -1,9 +1,9 @@
-use Rattle.std.proofs.Common.{◌≡◌, ◌<◌, ◌∙◌, ◌++◌, ℕ, length, sym, ap, subst, arith}
+use Rattle.std.proofs.Common.{◌≡◌, ◌<◌, ◌∙◌, ◌++◌, ℕ, [], length, sym, ap, subst, arith}
 use Rattle.std.specs.Prelude.{slice_index_or}
 use Rattle.std.proofs.lemmas.List.{length-map}
 use Rattle.desks.specs.Parts.{own}
 use Rattle.desks.specs.Reports.{unreported}
-use Rattle.desks.specs.Views.{IsDeskOf}
+use Rattle.desks.specs.Views.{IsDeskOf, new_desk}
 use Rattle.turns.specs.System.{system_of}
 use Rattle.workers.specs.Workers.{IsLogOf, records}
 use Rattle.workers.proofs.Logs.{new_log}
@@ -31,7 +31,7 @@ returns-clause-desks g c =
     let one = (came.each i d below).1 in
     let new = new_desk_at room desks.items i one.job c.requires.desks below one.job_read in
     let call = one.call.met in
-    let kept = c.requires.keeps call.0 (slice_index_or shifts.items i d) call.2 in
+    let kept = c.requires.keeps call.0 (slice_index_or shifts.items i d) call.3 in
     (kept.0, kept.1 ∙ ap (λ desk. desk.number) (call.1 ∙ new)))
 
 pub returns-clause-logs : goal.returns-clause-logs
@@ -50,17 +50,20 @@ returns-clause-logs g c =
           let new = new_desk_at room desks.items i one.job c.requires.desks below one.job_read in
           let call = one.call.met in
           let shift = slice_index_or shifts.items i d in
-          let kept = c.requires.keeps call.0 shift call.2 in
+          let kept = c.requires.keeps call.0 shift call.3 in
           subst (λ (n : ℕ). own n shift.desk.seen ≡ records shift.log.items ++ unreported O n shift.desk.actor) (kept.1 ∙ ap (λ desk. desk.number) (call.1 ∙ new)) kept.2);
     }
 
 pub returns-clause-each : goal.returns-clause-each
 returns-clause-each g c =
+    let room = c.args._room.now in
     let desks = c.args.desks in
     let shifts = c.in_ok-shifts.shifts in
     let came = c.in_ok-shifts.ensures in
-    at_each (λ i after. (shift : _) × g.W.Routine.Ends c.args.routine.now shift after) shifts.items
+    at_each (λ i after. (shift : _) × (shift.desk ≡ new_desk room i) × (shift.log.items ≡ []) × g.W.Routine.Ends c.args.routine.now shift after) shifts.items
     (λ i d lt.
     let below : i < length desks.items = omega (arith, came.len, shifts.ok.0, desks.ok.0, lt) in
-    let call = (came.each i d below).1.call.met in
-    (call.0, call.2))
+    let one = (came.each i d below).1 in
+    let new = new_desk_at room desks.items i one.job c.requires.desks below one.job_read in
+    let call = one.call.met in
+    (call.0, call.1 ∙ new, call.2, call.3))

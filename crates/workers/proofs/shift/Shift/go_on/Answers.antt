@@ -12,3 +12,6 @@ returns-clause-done g c = λ _ number job is.
       number_is = its.0;
       job_is = its.1;
     }
+
+pub returns-clause-logged : goal.returns-clause-logged
+returns-clause-logged g c = (c.in-Some.reported, c.push_reserved.ensures.items ∙ ap (λ l. l ++ c.in-Some.reported ∷ []) c.reserve.ensures.items, c.in-Some.ensures.persisted)
