@@ -13,7 +13,8 @@ class Drawings(ProgramTest):
 
     def drawn(self, text, *words):
         """What the program makes of records."""
-        ended = self.run_here(*words, "--plan", "full.toml", data=text.encode())
+        # A page of all turns takes seconds, and on a busy machine minutes.
+        ended = self.run_here(*words, "--plan", "full.toml", data=text.encode(), timeout=600)
         self.assertEqual((ended.status, ended.errors), (0, b""))
         return ended.output.decode()
 

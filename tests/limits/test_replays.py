@@ -8,6 +8,22 @@ import inputs
 import office_model
 from process import DIAL, DIALLED, ProgramTest, fault
 
+# Of the jobs whose steps mix, how many there are, and how many are given at a time.
+MIXED, AT_A_TIME = 3000, 24
+
+
+def mixed_rows(jobs):
+    """Rows that give jobs to many markers at a time. At first each makes a few steps now and then; then come so many
+    that each ends its job, also those that others make begin anew."""
+    chance, rows = random.Random(3), []
+    for at in range(0, len(jobs), AT_A_TIME):
+        given = list({job[1]: job for job in jobs[at:at + AT_A_TIME]}.values())
+        rows += [inputs.job_row(*job) for job in given]
+        rows += [f"S,{chance.choice(given)[1]},{chance.randrange(20)},,\n" for _ in range(3 * len(given))]
+        for _ in range(15):
+            rows += [f"S,{job[1]},{chance.randrange(100, 300)},,\n" for job in chance.sample(given, len(given))]
+    return rows
+
 
 class Replays(ProgramTest):
     def setUp(self):
@@ -34,16 +50,8 @@ class Replays(ProgramTest):
         self.expect(self.words, 0, inputs.records().encode(), data=rows.encode())
 
     def test_steps_that_mix(self):
-        """The same jobs, given as markers are idle and stepped in a random order."""
-        chance, rows = random.Random(3), []
-        for round_at in range(0, inputs.JOBS, 16):
-            some = inputs.jobs()[round_at:round_at + 16]
-            markers = list({job[1]: job for job in some}.values())
-            rows += [inputs.job_row(*job) for job in markers]
-            rows += [f"S,{chance.choice(markers)[1]},{chance.randrange(20)},,\n" for _ in range(40)]
-            # Each comes to its end, some only after others have begun anew.
-            rows += [f"S,{job[1]},9999,,\n" for _ in range(3) for job in markers]
-            rows += [f"S,{job[1]},9999,,\n" for job in reversed(markers)] * 2
+        """Jobs of many markers at a time, stepped in a random order, so that they meet."""
+        rows = mixed_rows(inputs.jobs()[:MIXED])
         ended = self.run_here(*self.words, data="".join(rows).encode())
         self.assertEqual((ended.status, ended.errors), (0, b""))
         records = ended.output.decode()

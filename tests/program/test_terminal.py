@@ -16,8 +16,6 @@ READS = {"replay": DIAL, "walk": DIAL, "walk --json": DIAL, "look": DIAL, "look 
 SAMPLES = {DIAL: [b"J,0,1,D,3041", b"S,0,128,,"], CALL: [b"C,7,3041,5551234,R"], DIALLED: [b"records", b"replay"]}
 HINT = re.compile(rb"crossbar5: standard input is a terminal: [^\r\n]*\r?\n")
 SECONDS = re.compile(rb"(\rcrossbar5: working, [0-9]+ seconds)+\r\n")
-# Longer than the two seconds after which a run tells its time, on a machine with other work too.
-LONG = 4
 PATIENCE = 60
 
 
@@ -157,6 +155,13 @@ class Progress(TerminalTest):
             self.skipTest("the machine is so busy that the run took more than two seconds")
         self.assertEqual(screen.rest(), b"")
 
+    def wait_as_long_as_one_that_tells(self):
+        """Waits until a run that began after all others tells three seconds: so they had the time to tell two."""
+        screen = self.terminal()
+        running = self.begun("replay", stderr=screen.end)
+        self.assertTrue(screen.wait_for(b"working, 3 seconds", PATIENCE), screen.shown)
+        running.communicate(timeout=PATIENCE)
+
     def test_not_shown(self):
         """Standard output is a terminal, where the line would stand before the records; standard error is a file or a
         pipe, as in a script; or somebody types."""
@@ -169,7 +174,7 @@ class Progress(TerminalTest):
                 "standard output alone is a terminal": self.begun("replay", stdout=screens[1].end, stderr=subprocess.PIPE),
                 "somebody types": self.begun("replay", stdin=screens[2].end, stderr=screens[2].end),
             }
-            time.sleep(LONG)
+            self.wait_as_long_as_one_that_tells()
             screens[2].type(END_OF_INPUT)
             piped = [running.communicate(timeout=PATIENCE)[1] or b"" for running in runs.values()]
             log.seek(0)
