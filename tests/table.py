@@ -65,12 +65,6 @@ def by_unittest(lines):
     return Count(int(ran[-1][1]) - failed - skipped, failed, skipped)
 
 
-def by_binding(lines):
-    """`bindings/test: NAME passed` or `FAILED` as the last line."""
-    found = re.fullmatch(r"bindings/test: \w+ (passed|FAILED)", lines[-1])
-    return Count(int(found[1] == "passed"), int(found[1] == "FAILED")) if found else None
-
-
 def by_status(lines):
     """A build says nothing that counts: its status is one check."""
     return Count(1)
@@ -78,8 +72,9 @@ def by_status(lines):
 
 @dataclass
 class Step:
-    """A build or a script: its words, in which {program} is the program's path; what it can't do without; what only a
-    part of it needs, with what is left out then; the steps that it stands on; how its output is read; its time."""
+    """A build or a script: its words, in which {program} is the program's path, and {output of NAME} that of the file
+    with what the step NAME printed; what it can't do without; what only a part of it needs, with what is left out then;
+    the steps that it stands on; how its output is read; its time."""
 
     name: str
     words: list
@@ -142,13 +137,18 @@ class Run:
             tell(step, "; ".join(map(lack, missing)))
         return not missing
 
-    def log(self, step):
-        return os.path.join(self.folder, re.sub(r"[^A-Za-z0-9]+", "_", step.name) + ".log")
+    def log(self, name):
+        return os.path.join(self.folder, re.sub(r"[^A-Za-z0-9]+", "_", name) + ".log")
+
+    def word(self, it):
+        """A word of a step with paths in the place of their names."""
+        it = it.replace("{program}", self.program)
+        return re.sub(r"\{output of (.*?)\}", lambda found: self.log(found[1]), it)
 
     def process(self, step):
         """Runs a step, its output in its log, and gives how it ended: None, or words."""
-        words = [it.replace("{program}", self.program) for it in step.words]
-        with open(self.log(step), "wb") as log:
+        words = [self.word(it) for it in step.words]
+        with open(self.log(step.name), "wb") as log:
             try:
                 running = subprocess.Popen(words, cwd=self.root, stdin=subprocess.DEVNULL, stdout=log,
                                            stderr=subprocess.STDOUT, start_new_session=True)
@@ -164,7 +164,7 @@ class Run:
                     running.wait()
 
     def lines(self, step):
-        with open(self.log(step), encoding="utf-8", errors="replace") as log:
+        with open(self.log(step.name), encoding="utf-8", errors="replace") as log:
             return [line.rstrip() for line in log if line.strip()] or [""]
 
     def judge(self, step, ended, lines):
@@ -196,7 +196,7 @@ class Run:
         if count.failed:
             self.say(*(f"    {line[:300]}" for line in lines[-SHOWN_LINES:]), sep="\n")
         said = f"FAILED: {wrong}" if wrong else str(count)
-        place = f"; all of its output is in {self.log(step)}" if count.failed else ""
+        place = f"; all of its output is in {self.log(step.name)}" if count.failed else ""
         self.say(f"{step.name}: {said} ({time.monotonic() - begun:.0f} s){place}")
 
 

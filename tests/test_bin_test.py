@@ -14,7 +14,7 @@ HERE = os.path.dirname(os.path.realpath(__file__))
 ROOT = os.path.dirname(HERE)
 sys.path.insert(0, HERE)
 import report  # noqa: E402
-from table import Count, Run, Step, by_binding, by_cases, by_status, by_unittest, picked, run_table  # noqa: E402
+from table import Count, Run, Step, by_cases, by_status, by_unittest, picked, run_table  # noqa: E402
 
 
 def shell(name, text, **how):
@@ -96,6 +96,12 @@ class Tables(unittest.TestCase):
         named = Step("named", ["sh", "-c", 'test "$0" = /the/program && echo "1 passed, 0 failed"', "{program}"])
         self.assertEqual(self.run_steps(named), (0, "1 passed, 0 failed"))
 
+    def test_output(self):
+        """A script can read what an earlier step printed."""
+        first = shell("the first", "echo '2 passed, 0 failed'")
+        second = Step("second", ["cat", "{output of the first}"], after=["the first"])
+        self.assertEqual(self.run_steps(first, second), (0, "4 passed, 0 failed"))
+
     def test_builds(self):
         built = shell("built", "true", reads=by_status)
         failed = shell("failed", "echo '5 passed, 0 failed'; exit 1", reads=by_status)
@@ -139,11 +145,6 @@ class Readings(unittest.TestCase):
         text = "import unittest\nclass T(unittest.TestCase):\n def test_a(self): pass\n def test_b(self): self.fail()\n"
         ran = subprocess.run([sys.executable, "-c", text + "unittest.main()"], capture_output=True, text=True)
         self.assertEqual(by_unittest([it for it in ran.stderr.split("\n") if it]), Count(1, 1))
-
-    def test_bindings(self):
-        self.assertEqual(by_binding(["bindings/test: c passed"]), Count(1))
-        self.assertEqual(by_binding(["bindings/test: rust FAILED"]), Count(0, 1))
-        self.assertIsNone(by_binding(["bindings/test: run bindings/build first"]))
 
 
 class Reports(unittest.TestCase):
