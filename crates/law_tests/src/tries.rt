@@ -99,12 +99,10 @@ impl<'a> Looking<'a> {
         let Ok(onlooker) = self.onlooker.try_borrow() else {
             return false;
         };
-        let mut made = 0;
-        for sight in onlooker.sights.iter() {
-            if sight.made != made + 1 || sight.lower.is_some() || sight.upper.is_some() {
+        for (sight, made) in onlooker.sights.iter().zip(1..u64::MAX) {
+            if sight.made != made || sight.lower.is_some() || sight.upper.is_some() {
                 return false;
             }
-            made = sight.made;
         }
         onlooker.sights.len() == tries
     }
