@@ -12,11 +12,10 @@ pub returns-clause-ends : goal.returns-clause-ends
 returns-clause-ends g c =
     let failures : ℕ = g.R.Source.failure_count c.answer-run.new.input - g.R.Source.failure_count c.args.input.now in
     let sentence : c.of_run.result.sentence ≡ sentence_on_run c.answer-run.result c.args.file failures = search rules in
-    run_end c.args.work c.args.file (g.S.System.bytes_in c.args.system.now) failures
-    (g.R.Read.remaining c.args.input.now) (g.W.Write.contents c.args.output.now) (g.W.Write.contents c.answer-run.new.output)
-    c.answer-run.result c.of_run.result.ending (option_map (λ lines. lines.items) c.of_run.result.reasons)
-    c.of_run.result.sentence c.in-Ok-plan_named.plan.items c.in-Ok-plan_named.ensures.named
-    (search rules) c.answer-run.ensures.diagnostic c.answer-run.ensures.unwritten (search rules)
+    run_end c.args.work c.args.file _ _ (option_map (λ lines. lines.items) c.of_run.result.reasons) c.of_run.result.sentence
+    c.answer-run.result c.of_run.result.ending c.in-Ok-plan_named.plan.items c.in-Ok-plan_named.ensures.named
+    (search rules) c.answer-run.ensures.diagnostic c.answer-run.ensures.unwritten (search rules) (search rules)
+    c.answer-run.ensures.device c.answer-run.ensures.long (search rules)
     c.of_run.ensures.ending c.of_run.ensures.reasons sentence
 
 pub returns-clause-no_failure : goal.returns-clause-no_failure
