@@ -109,7 +109,14 @@ struct Host<'h> {
 }
 
 impl System for Host<'_> {
+    ghost use Rattle.std.specs.Prelude.{◌≡◌, IfOk};
+    ghost use Rattle.counted_io.specs.Counted.{counted_failures, counted_reads};
+
     type File = Counted<File>;
+
+    // Nothing is known of the file, but that no failure and no read was counted yet.
+    ghost Opens = { λ _ _ opened. IfOk opened
+        (λ file. (counted_failures file ≡ 0) × (counted_reads file ≡ 0)) };
 
     fn open(&self, name: &str) -> io::Result<Counted<File>> {
         Ok(Counted::new(File::open(self.rt, name)?))

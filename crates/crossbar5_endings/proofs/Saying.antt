@@ -3,23 +3,20 @@ use Rattle.std.proofs.Common.{◌≡◌, ◌++◌, [], ℕ, List, Option, None, 
 use Rattle.std.proofs.KnownBytes.{Appends-trans}
 use Rattle.std.specs.Io.KnownBytes.{Appends}
 use Rattle.clap.specs.declared.error.kind.ErrorKind.{ErrorKind}
-use Rattle.crossbar5_endings.specs.Endings.{line_of}
-use Rattle.crossbar5_endings.specs.Printed.{IsKnownAs, IsPut, IsRefusalText, IsSentenceLine, IsStderrText, line_text, reasons_text}
+use Rattle.crossbar5_endings.specs.Printed.{IsKnownAs, IsPut, IsRefusalText, IsSentenceLine, IsStderrText, lines_text}
 use Rattle.crossbar5_endings.specs.Sentences.{sentence_on_printing, text_of}
 use Rattle.crossbar5_endings.specs.declared.ending.Ending.{Ending}
 use Rattle.std.specs.Prelude.{option_map}
 
--- the line of an ending, the reasons, and the line of a sentence
-pub all_said : (a b c d : Option (List ℕ)) (ending : Ending) (reasons : Option (List ℕ)) (sentence : Option (Option (List ℕ)))
-    → Appends a b (line_text (line_of ending)) → Appends b c (reasons_text reasons) → IsPut (IsSentenceLine sentence) c d
-    → IsPut (IsStderrText ending reasons sentence) a d
-all_said a b c d ending reasons sentence h k said =
-    let text = line_text (line_of ending) in
-    let rest = reasons_text reasons ++ said.0 in (
-      text ++ rest,
-      record { line = said.0; line_is = said.1; text_is = refl },
-      Appends-trans a b d text rest h (Appends-trans b c d (reasons_text reasons) said.0 k said.2),
-    )
+-- the line of an ending and the reasons, and then the line of a sentence
+pub all_said : (a b c : Option (List ℕ)) (ending : Ending) (reasons : Option (List ℕ)) (sentence : Option (Option (List ℕ)))
+    → Appends a b (lines_text ending reasons) → IsPut (IsSentenceLine sentence) b c
+    → IsPut (IsStderrText ending reasons sentence) a c
+all_said a b c ending reasons sentence h said = (
+  lines_text ending reasons ++ said.0,
+  record { line = said.0; line_is = said.1; text_is = refl },
+  Appends-trans a b c (lines_text ending reasons) said.0 h said.2,
+)
 
 -- clap's text, and what belongs to the ending
 pub refusal_said : (a b c : Option (List ℕ)) (kind : ErrorKind) (known : Option (List ℕ)) (ending : Ending)

@@ -46,13 +46,17 @@ abbrev pub reasons_text : Option (List ℕ) → List ℕ
 reasons_text (Some lines) = lines
 reasons_text None = []
 
--- what is written on standard error: the line of the ending, the reasons, and then one line with
--- the sentence, if there is one
+-- the line of the ending, and the reasons
+abbrev pub lines_text : Ending → Option (List ℕ) → List ℕ
+lines_text ending reasons = line_text (line_of ending) ++ reasons_text reasons
+
+-- what is written on standard error: these lines, and then one line with the sentence, if there is
+-- one
 pub record IsStderrText (ending : Ending) (reasons : Option (List ℕ))
     (sentence : Option (Option (List ℕ))) (text : List ℕ) : Type 0 where
   pub line : List ℕ
   pub line_is : IsSentenceLine sentence line
-  pub text_is : text ≡ line_text (line_of ending) ++ (reasons_text reasons ++ line)
+  pub text_is : text ≡ lines_text ending reasons ++ line
 
 -- clap's text, which for a version is followed by the line on how the program was built
 abbrev pub printed_text : ErrorKind → List ℕ → List ℕ → List ℕ

@@ -1,8 +1,8 @@
-ghost use Rattle.std.specs.Prelude.{◌≡◌, None, Ok, Some, option_map};
+ghost use Rattle.std.specs.Prelude.{◌≡◌, None, Some, option_map};
 ghost use Rattle.crossbar5_answer.specs.Refusal.{HasItsStatus, status_of};
 ghost use Rattle.crossbar5_endings.specs.Endings.{ending_of_run};
 ghost use Rattle.crossbar5_endings.specs.Sentences as specs;
-ghost use Rattle.crossbar5_endings.specs.Sentences.{FileName, SpeaksOf, reasons_of_run};
+ghost use Rattle.crossbar5_endings.specs.Sentences.{SpeaksOf, reasons_of_run};
 
 use crate::ending::Ending;
 use crate::sentence::Sentence;
@@ -166,21 +166,14 @@ fn sentence_on_answer<'w>(
     ensures sentence { result ≡ specs.sentence_on_parts file.entry diagnostic status reasons.now }
 {
     match diagnostic {
-        Ok(Some(diagnostic)) => sentence_on_diagnostic(diagnostic, file),
-        Ok(None) => sentence_on_reasons(status, reasons),
+        Ok(found) => match found {
+            Some(diagnostic) => sentence_on_diagnostic(diagnostic, file),
+            None if status == Status::FoundWrong && !reasons.is_empty() => {
+                Some(Sentence::NothingDrawn)
+            }
+            None => None,
+        },
         Err(_) => None,
-    }
-}
-
-/// The sentence on a response without a diagnostic: that wrong records aren't drawn, if they aren't.
-fn sentence_on_reasons<'w>(status: Status, reasons: &[u8]) -> Option<Sentence<'w>>
-    ensures fits { SpeaksOf result (Ending.Answered status) }
-    ensures sentence { (file : FileName) →
-        result ≡ specs.sentence_on_parts file (Ok None) status reasons.now }
-{
-    match status {
-        Status::FoundWrong if !reasons.is_empty() => Some(Sentence::NothingDrawn),
-        _ => None,
     }
 }
 

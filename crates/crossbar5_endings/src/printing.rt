@@ -25,6 +25,7 @@ use std::fmt::Display;
 
 /// Writes the line of an ending, the reasons why nothing is drawn, and the sentence. A failed
 /// write doesn't change the ending, nor does lack of memory for the sentence.
+#[tactic(auto, using(crate::proofs::Saying::all_said))]
 pub fn finish<E: Sink>(alloc: Global, ended: &Ended<'_>, errors: &mut E) -> Exit
     ensures ending { result.ending ≡ ended.now.ending }
     ensures printed { IsTrue result.is_printed → IsPut (specs.IsStderrText ended.now.ending
@@ -34,13 +35,24 @@ pub fn finish<E: Sink>(alloc: Global, ended: &Ended<'_>, errors: &mut E) -> Exit
     ensures unprinted { result.is_printed ≡ false → ended.now.sentence ≡ None
         → HasFailed (E.failure_count errors.old) (E.failure_count errors.new) }
 {
-    let is_line_printed = print_line(ended.ending.line(), errors);
-    let are_reasons_printed = is_line_printed && print_reasons(ended.reasons.as_ref(), errors);
+    let are_lines_printed = print_lines(ended, errors);
     let is_sentence_printed = print_sentence(alloc, ended.sentence.as_ref(), errors);
     Exit {
         ending: ended.ending,
-        is_printed: are_reasons_printed && is_sentence_printed,
+        is_printed: are_lines_printed && is_sentence_printed,
     }
+}
+
+/// Writes the line of an ending and the reasons why nothing is drawn. Returns whether they were
+/// written.
+fn print_lines<E: Sink>(ended: &Ended<'_>, errors: &mut E) -> bool
+    ensures printed { IsTrue result → Appends (E.contents errors.old) (E.contents errors.new)
+        (specs.lines_text ended.now.ending
+        (option_map (λ lines. lines.items) ended.now.reasons)) }
+    ensures unprinted { result ≡ false
+        → HasFailed (E.failure_count errors.old) (E.failure_count errors.new) }
+{
+    print_line(ended.ending.line(), errors) && print_reasons(ended.reasons.as_ref(), errors)
 }
 
 /// Writes a line, if there is one. Returns whether it was written.
@@ -163,6 +175,7 @@ pub fn print_text<D: Display, W: Sink, E: Sink>(
 }
 
 /// Prints on standard error why words are refused.
+#[tactic(auto, using(crate::proofs::Saying::refusal_said))]
 fn print_refusal<D: Display, E: Sink>(
     alloc: Global,
     kind: ErrorKind,
