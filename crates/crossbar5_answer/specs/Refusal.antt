@@ -1,5 +1,5 @@
 -- Diagnostics, and the refusals that they explain.
-use Rattle.std.specs.Prelude.{◌≡◌, ◌++◌, ℕ, List, Option, None, Some, Result, Ok, Err, codes, decimal, ⊤}
+use Rattle.std.specs.Prelude.{◌≡◌, ◌++◌, ℕ, Bool, true, false, List, Option, None, Some, Result, Ok, Err, codes, decimal}
 use Rattle.std.specs.declared.alloc.AllocError.{AllocError}
 use Rattle.xbar_traffic.specs.Fault.{fault_line}
 use Rattle.crossbar5_answer.specs.PlanRefusal.{plan_fault_line}
@@ -24,12 +24,12 @@ status_of (Plan diagnostic) = PlanRefused
 status_of (Traffic diagnostic) = TrafficRefused
 status_of (Report diagnostic) = ReportRefused
 
--- the status of a run whose plan, traffic or text of records is refused
-abbrev pub Refuses : Status → Type 0
-Refuses PlanRefused = ⊤
-Refuses TrafficRefused = ⊤
-Refuses ReportRefused = ⊤
-Refuses _ = ⊥
+-- whether this is the status of a run whose plan, traffic or text of records is refused
+abbrev pub refuses : Status → Bool
+refuses PlanRefused = true
+refuses TrafficRefused = true
+refuses ReportRefused = true
+refuses _ = false
 
 -- a diagnostic; none; or, as an error, that memory for a diagnostic ran out
 abbrev pub Explanation : Type 0
@@ -38,18 +38,18 @@ Explanation = Result (Option Diagnostic) AllocError
 -- there is a diagnostic exactly if the run is refused, and the status is that of a run refused for
 -- its fault; for a refused run, memory for it may have run out
 abbrev pub HasItsStatus : Explanation → Status → Type 0
-HasItsStatus (Ok None) status = ¬ Refuses status
-HasItsStatus (Ok (Some diagnostic)) status = status ≡ status_of diagnostic
-HasItsStatus (Err error) status = Refuses status
+HasItsStatus explanation status =
+    ((diagnostic : Diagnostic) → explanation ≡ Ok (Some diagnostic) → status ≡ status_of diagnostic)
+    × (explanation ≡ Ok None → refuses status ≡ false)
+    × ((error : AllocError) → explanation ≡ Err error → refuses status ≡ true)
 
 -- if there is a diagnostic, the text is the line of its fault
 abbrev pub HasItsLine : Explanation → List ℕ → Type 0
-HasItsLine (Ok None) text = ⊤
-HasItsLine (Ok (Some diagnostic)) text = text ≡ line_of diagnostic
-HasItsLine (Err error) text = ⊤
+HasItsLine explanation text =
+    (diagnostic : Diagnostic) → explanation ≡ Ok (Some diagnostic) → text ≡ line_of diagnostic
 
 -- there is a diagnostic exactly if the run is refused, unless memory for it ran out; and the text
 -- and the status report that its fault refused the run
 abbrev pub ReportsFaultOf : Explanation → List ℕ → Status → Type 0
-ReportsFaultOf diagnostic text status =
-    HasItsLine diagnostic text × HasItsStatus diagnostic status
+ReportsFaultOf explanation text status =
+    HasItsLine explanation text × HasItsStatus explanation status

@@ -148,12 +148,12 @@ module _ (work : Work) (file : FileName) (files : Files) (streams : Streams) (re
 
   -- the plan's file was to blame, or memory ran out for the plan
   pub plan_end : (ending : Ending) (fault : EngineFault) (reason : Option Error)
-      → HasMarkers work → IsPlanFault files (name_in file) fault → streams.IsUntouched → streams.IsUnwritten
+      → IsPlanFault files (name_in file) fault → streams.IsUntouched → streams.IsUnwritten
       → ending ≡ Failed fault → reasons ≡ None → sentence ≡ sentence_on_plan_file fault file reason
       → IsEndOf work file files streams (record { ending = ending; reasons = reasons; sentence = sentence })
-  plan_end ending fault reason m f u w is r se =
+  plan_end ending fault reason f u w is r se =
       subst (λ (x : Ending). IsEndOf work file files streams (record { ending = x; reasons = reasons; sentence = sentence })) (sym is)
-      (record { reasons_are = r; why = inr (record { markers = m; cause = f; unread = u; unwritten = w; reason = reason; sentence_is = se }) })
+      (record { reasons_are = r; why = inr (record { cause = f; unread = u; unwritten = w; reason = reason; sentence_is = se }) })
 
   -- the markers were refused, or memory ran out for their gates
   pub markers_end : (ending : Ending) (fault : EngineFault)

@@ -85,9 +85,8 @@ pub record FailsItself (work : Work) (streams : Streams) (sentence : Option Sent
 
 -- the plan's file couldn't be opened or read, or memory ran out for the plan's text. Then nothing
 -- was read or written
-pub record FailsAtPlan (work : Work) (file : FileName) (files : Files) (streams : Streams)
+pub record FailsAtPlan (file : FileName) (files : Files) (streams : Streams)
     (sentence : Option Sentence) (fault : EngineFault) : Type 0 where
-  pub markers : HasMarkers work
   pub cause : IsPlanFault files (name_in file) fault
   pub unread : streams.IsUntouched
   pub unwritten : streams.IsUnwritten
@@ -99,7 +98,7 @@ pub record IsFailedRun (work : Work) (file : FileName) (files : Files) (streams 
     (end : End) (fault : EngineFault) : Type 0 where
   pub reasons_are : end.reasons ≡ None
   pub why : FailsItself work streams end.sentence fault
-      ⊎ FailsAtPlan work file files streams end.sentence fault
+      ⊎ FailsAtPlan file files streams end.sentence fault
 
 -- a run of the work has this end, by its ending
 abbrev pub IsEndIn : Work → FileName → Files → Streams → End → Ending → Type 0

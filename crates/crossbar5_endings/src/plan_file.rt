@@ -30,7 +30,7 @@ pub fn plan_text<R: Source + Drop>(
     ensures refused { IfSome asked (λ opened. IfErr opened (λ error.
         result ≡ Err (opening_fault (error_kind error)))) }
     ensures failed { IfSome asked (λ opened. IfOk opened (λ file. IfErr result
-        (IsFileFault (λ file. R.failure_count file) (λ file. R.read_count file) file))) }
+        (IsFileFault (λ it. R.failure_count it) (λ it. R.read_count it) file))) }
     ensures markers { result ≢ Err EngineFault.Markers }
 {
     match asked {
@@ -43,9 +43,9 @@ pub fn plan_text<R: Source + Drop>(
 /// All of a file.
 fn file_text<R: Source + Drop>(alloc: Global, mut file: R) -> Result<Vec<u8>, EngineFault>
     ensures text { IfOk result (λ text.
-        IfSome (R.remaining file.entry) (λ all. text.items ≡ all)) }
+        IfSome (R.remaining file) (λ all. text.items ≡ all)) }
     ensures failed { IfErr result
-        (IsFileFault (λ file. R.failure_count file) (λ file. R.read_count file) file.entry) }
+        (IsFileFault (λ it. R.failure_count it) (λ it. R.read_count it) file) }
 {
     match read_all(alloc, &mut file) {
         Ok(text) => Ok(text),
