@@ -6,7 +6,7 @@ ghost use Rattle.crossbar5_endings.specs.Causes.{opening_fault};
 ghost use Rattle.crossbar5_endings.specs.Named.{IsFileFault};
 
 use crate::causes::fault_of_opening;
-use counted_io::{Source, read_all};
+use counted_io::{ReadFault, Source, read_all};
 use crossbar5_answer::EngineFault;
 use std::alloc::{AllocError, Global};
 use std::io;
@@ -49,7 +49,11 @@ fn file_text<R: Source + Drop>(alloc: Global, mut file: R) -> Result<Vec<u8>, En
 {
     match read_all(alloc, &mut file) {
         Ok(text) => Ok(text),
-        Err(fault) => Err(fault.into()),
+        Err(fault) => match fault {
+            ReadFault::Memory => Err(EngineFault::Memory),
+            ReadFault::Device => Err(EngineFault::Device),
+            ReadFault::Long => Err(EngineFault::Long),
+        },
     }
 }
 

@@ -25,7 +25,6 @@ use std::fmt::Display;
 
 /// Writes the line of an ending, the reasons why nothing is drawn, and the sentence. A failed
 /// write doesn't change the ending, nor does lack of memory for the sentence.
-#[tactic(auto, using(crate::proofs::Saying::all_said))]
 pub fn finish<E: Sink>(alloc: Global, ended: &Ended<'_>, errors: &mut E) -> Exit
     ensures ending { result.ending ≡ ended.now.ending }
     ensures printed { IsTrue result.is_printed → IsPut (specs.IsStderrText ended.now.ending
@@ -175,7 +174,6 @@ pub fn print_text<D: Display, W: Sink, E: Sink>(
 }
 
 /// Prints on standard error why words are refused.
-#[tactic(auto, using(crate::proofs::Saying::refusal_said))]
 fn print_refusal<D: Display, E: Sink>(
     alloc: Global,
     kind: ErrorKind,
