@@ -1,11 +1,12 @@
 -- Texts that are written one after the other.
-use Rattle.std.proofs.Common.{◌≡◌, ◌++◌, [], ℕ, List, Option, None, refl}
+use Rattle.std.proofs.Common.{◌≡◌, ◌++◌, [], ℕ, List, Option, None, Some, Bor, ap, refl}
 use Rattle.std.proofs.KnownBytes.{Appends-trans}
 use Rattle.std.specs.Io.KnownBytes.{Appends}
 use Rattle.clap.specs.declared.error.kind.ErrorKind.{ErrorKind}
 use Rattle.crossbar5_endings.specs.Printed.{IsKnownAs, IsPut, IsRefusalText, IsSentenceLine, IsStderrText, lines_text}
 use Rattle.crossbar5_endings.specs.Sentences.{sentence_on_printing, text_of}
 use Rattle.crossbar5_endings.specs.declared.ending.Ending.{Ending}
+use Rattle.crossbar5_endings.specs.declared.sentence.Sentence.{Sentence}
 use Rattle.std.specs.Prelude.{option_map}
 
 -- the line of an ending and the reasons, and then the line of a sentence
@@ -28,3 +29,9 @@ refusal_said a b c kind known ending text said = (
   record { text = text.0; text_is = text.1; rest = said.0; rest_is = said.1; written_is = refl },
   Appends-trans a b c text.0 said.0 text.2 said.2,
 )
+
+-- the texts of what references point to
+pub text_behind : (found : Option (Bor Sentence)) (sentence : Option Sentence) → option_map (λ text. text.now) found ≡ sentence
+    → option_map (λ text. text_of text.now) found ≡ option_map text_of sentence
+text_behind None sentence is = ap (option_map text_of) is
+text_behind (Some found) sentence is = ap (option_map text_of) is
