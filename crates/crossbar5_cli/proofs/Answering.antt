@@ -1,8 +1,9 @@
 -- What the engine answers, as the program reports it.
-use Rattle.std.proofs.Common.{◌≡◌, ◌≢◌, ◌∙◌, ◌⊎◌, [], ℕ, Bool, List, Option, None, Some, Result, Ok, Err, IfErr, IfOk, IfSome, IsTrue, OnOk, false, inl, inr, option_map, refl, subst, sym}
+use Rattle.std.proofs.Common.{◌≡◌, ◌≢◌, ◌∙◌, ◌⊎◌, [], ℕ, Bool, Bor, List, Option, None, Some, Result, Ok, Err, IfErr, IfOk, IfSome, IsTrue, MatchResult, OnOk, false, inl, inr, option_map, refl, subst, sym}
 use Rattle.std.specs.Io.KnownBytes.{Appends, Keeps}
 use Rattle.std.specs.IoError.{error_kind}
 use Rattle.std.specs.declared.io.Error.{Error}
+use Rattle.xbar_moves.specs.declared.kind.Kind.{Kind}
 use Rattle.crossbar5_answer.specs.Faults.{ComesFirst}
 use Rattle.crossbar5_answer.specs.Refusal.{ReportsFaultOf}
 use Rattle.crossbar5_answer.specs.declared.response.Response.{Response}
@@ -15,15 +16,15 @@ use Rattle.crossbar5_command.specs.declared.ask.Ask.{Ask}
 use Rattle.crossbar5_endings.specs.Asks.{MayEndAsked, RefusesMarkers}
 use Rattle.crossbar5_endings.specs.Causes.{opening_fault}
 use Rattle.crossbar5_endings.specs.Endings.{ending_of_run}
-use Rattle.crossbar5_endings.specs.Named.{Files, IsFileFault, IsPlanFault, IsPlanNamed, files_of, name_in}
-use Rattle.crossbar5_endings.specs.Sentences.{FileName, reasons_of_run, sentence_on_plan_file, sentence_on_run, text_of}
+use Rattle.crossbar5_endings.specs.Named.{Files, IsFileFault, IsPlanFault, IsPlanNamed, NamesKinds, file_of, files_of, letters_of, name_in}
+use Rattle.crossbar5_endings.specs.Sentences.{End, FileName, reasons_of_run, sentence_on_plan_file, sentence_on_run, text_of}
 use Rattle.crossbar5_endings.specs.Printed.{IsPut, IsStderrText}
 use Rattle.crossbar5_endings.specs.declared.ending.Ending.{Ending}
 use Rattle.crossbar5_endings.specs.declared.ending.Ending.TheVariants.{Failed}
 use Rattle.crossbar5_endings.specs.declared.sentence.Sentence.{Sentence}
 use Rattle.crossbar5_cli.specs.Program.{DoesAsk, Errors}
 use Rattle.crossbar5_cli.specs.Runs.{IsEndAsAsked, IsEndOf, Streams, sentence_on_markers}
-use Rattle.crossbar5_cli.specs.Work.{HasMarkers, IsAnswer, IsDiagnosticOf, IsUnread}
+use Rattle.crossbar5_cli.specs.Work.{HasMarkers, IsAnswer, IsDiagnosticOf, IsUnread, work_of}
 use Rattle.crossbar5_cli.specs.declared.work.Work.{Work}
 use Rattle.crossbar5_cli.specs.declared.work.Work.TheVariants.{Calls, Task}
 
@@ -103,6 +104,18 @@ either : {A : Type 0} {a b c : A} → (c ≡ a) ⊎ (c ≡ b) → (c ≢ a) → 
 either (inl e) p q = p e
 either (inr e) p q = q e
 
+device_markers : Device ≢ Markers
+device_markers is = cc
+
+device_memory : Device ≢ Memory
+device_memory is = cc
+
+long_markers : Long ≢ Markers
+long_markers is = cc
+
+long_memory : Long ≢ Memory
+long_memory is = cc
+
 no_sentence : (work : Work) → sentence_on_markers work Memory ≡ None
 no_sentence (Task task) = refl
 no_sentence (Calls dialling completing) = refl
@@ -167,8 +180,8 @@ module _ (work : Work) (file : FileName) (files : Files) (streams : Streams) (re
   markers_end ending Memory why m u w is r se =
       subst (λ (x : Ending). IsEndOf work file files streams (record { ending = x; reasons = reasons; sentence = sentence })) (sym is)
       (record { reasons_are = r; why = inl (record { cause = tt; unwritten = λ _. w; sentence_is = se ∙ no_sentence work }) })
-  markers_end ending Device why m u w is r se = absurd (either why cc cc)
-  markers_end ending Long why m u w is r se = absurd (either why cc cc)
+  markers_end ending Device why m u w is r se = absurd (either why device_markers device_memory)
+  markers_end ending Long why m u w is r se = absurd (either why long_markers long_memory)
 
 -- if a run ended like this, the program did what is asked for
 pub done_ask : (ask : Ask) (files : Files) (streams : Streams) (errors : Errors) (ending ended : Ending) (is_printed : Bool)
@@ -211,3 +224,41 @@ module _ {File Text : Type 0} (items : Text → List ℕ) (Opens : List ℕ → 
   named_fault (Ok file) (Err fault) opens refused failed = inr (file, opens, failed)
   named_fault (Err error) (Err fault) opens refused failed = inl (error, opens, cc)
   named_fault opened (Ok text) opens refused failed = tt
+
+-- the same by the name of the plan's file
+module _ {File Text : Type 0} (items : Text → List ℕ) (Opens : List ℕ → Result File Error → Type 0) (remaining : File → Option (List ℕ)) (failures : File → ℕ) (reads : File → Option ℕ) (file : FileName) (name : Bor (List ℕ)) (is : file ≡ Some name) where
+  pub text_in : (opened : Result File Error) (result : Result Text EngineFault) → Opens name.now opened
+      → IfOk opened (λ file. IfOk result (λ text. IfSome (remaining file) (λ all. items text ≡ all)))
+      → IfErr opened (λ error. result ≡ Err (opening_fault (error_kind error)))
+      → IfOk result (λ text. IsPlanNamed (files_of Opens remaining failures reads) (name_in file) (items text))
+  text_in opened result opens all refused =
+      subst (λ (f : FileName). IfOk result (λ text. IsPlanNamed (files_of Opens remaining failures reads) (name_in f) (items text))) (sym is)
+      (named_text items Opens remaining failures reads name.now opened result opens all refused)
+
+  pub fault_in : (opened : Result File Error) (result : Result Text EngineFault) → Opens name.now opened
+      → IfErr opened (λ error. result ≡ Err (opening_fault (error_kind error)))
+      → IfOk opened (λ file. IfErr result (IsFileFault failures reads file))
+      → IfErr result (IsPlanFault (files_of Opens remaining failures reads) (name_in file))
+  fault_in opened result opens refused failed =
+      subst (λ (f : FileName). IfErr result (IsPlanFault (files_of Opens remaining failures reads) (name_in f))) (sym is)
+      (named_fault items Opens remaining failures reads name.now opened result opens refused failed)
+
+-- no file is named, so only memory may run out
+pub unnamed_fault : {Text : Type 0} (files : Files) (file : FileName) (result : Result Text EngineFault) (P : Text → Type 0) → file ≡ None
+    → MatchResult result P (λ fault. fault ≡ Memory) → IfErr result (IsPlanFault files (name_in file))
+unnamed_fault files None (Ok text) P is h = tt
+unnamed_fault files None (Err fault) P is h = h
+unnamed_fault files (Some name) result P is h = cc
+
+-- a run of the work that is asked for, with kinds that are asked for
+pub with_kinds : (ask : Ask) (files : Files) (streams : Streams) (end : End) (kinds : Bor (List Kind)) (file : FileName) (work : Work)
+    → NamesKinds (letters_of ask) kinds.now → name_in file ≡ file_of ask → work ≡ work_of ask kinds
+    → IsEndOf work file files streams end → IsEndAsAsked ask files streams end
+with_kinds ask files streams end kinds file work named file_is is ends =
+    inr (record {
+      kinds = kinds;
+      named = named;
+      file = file;
+      file_is = file_is;
+      ends = subst (λ (w : Work). IsEndOf w file files streams end) is ends;
+    })
