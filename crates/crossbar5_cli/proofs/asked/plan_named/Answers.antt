@@ -1,9 +1,13 @@
 use Rattle.std.proofs.Common.{refl, rules}
+use Rattle.crossbar5_endings.specs.Named.{files_of}
 use Rattle.crossbar5_cli.proofs.Answering.{fault_in, text_in, unnamed_fault}
 use Rattle.crossbar5_cli.proofs.asked.plan_named.Goals as goal
 
 pub returns-in-None-clause-refused : goal.returns-in-None-clause-refused
-returns-in-None-clause-refused g c = unnamed_fault _ c.args.file c.plan_text.result _ c.in-None.is (c.plan_text.ensures.example refl)
+returns-in-None-clause-refused g c =
+    unnamed_fault
+    (files_of (g.S.System.Opens c.args.system.now) (λ it. g.S.File.Read.remaining it) (λ it. g.S.File.Source.failure_count it) (λ it. g.S.File.Source.read_count it))
+    c.args.file c.plan_text.result _ c.in-None.is (c.plan_text.ensures.example refl)
 
 pub returns-in-Some-clause-named : goal.returns-in-Some-clause-named
 returns-in-Some-clause-named g c =
