@@ -1,10 +1,6 @@
-use Rattle.std.proofs.Common.{◌≡◌, ◌∙◌, ◌-◌, ℕ, List, Option, Result, Ok, Err, ap, option_map, refl, rules, subst, sym}
-use Rattle.crossbar5_answer.specs.declared.response.Response.{Response}
-use Rattle.crossbar5_answer.specs.declared.engine_fault.EngineFault.{EngineFault}
-use Rattle.crossbar5_answer.specs.declared.engine_fault.EngineFault.TheVariants.{Device, Markers}
+use Rattle.std.proofs.Common.{◌≡◌, ◌∙◌, ◌-◌, ℕ, ap, option_map, refl, rules}
 use Rattle.crossbar5_endings.specs.Endings.{ending_of_run}
 use Rattle.crossbar5_endings.specs.Sentences.{sentence_on_run}
-use Rattle.crossbar5_endings.specs.declared.ending.Ending.TheVariants.{Failed}
 use Rattle.std.proofs.KnownBytes.{Keeps-refl}
 use Rattle.crossbar5_cli.proofs.Answering.{markers_end, plan_end, run_end}
 use Rattle.crossbar5_cli.proofs.asked.perform.Goals as goal

@@ -1,4 +1,4 @@
-use Rattle.std.proofs.Common.{refl, rules}
+use Rattle.std.proofs.Common.{refl}
 use Rattle.crossbar5_endings.specs.Named.{files_of}
 use Rattle.crossbar5_cli.proofs.Answering.{fault_in, text_in, unnamed_fault}
 use Rattle.crossbar5_cli.proofs.asked.plan_named.Goals as goal

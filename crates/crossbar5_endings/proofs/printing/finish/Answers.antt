@@ -1,7 +1,5 @@
-use Rattle.std.proofs.Common.{◌≡◌, List, Option, None, Some, ℕ, Bor, ap, option_map, refl, rules, subst}
+use Rattle.std.proofs.Common.{List, Option, ℕ, option_map, rules, subst}
 use Rattle.crossbar5_endings.specs.Printed.{IsPut, IsStderrText}
-use Rattle.crossbar5_endings.specs.Sentences.{text_of}
-use Rattle.crossbar5_endings.specs.declared.sentence.Sentence.{Sentence}
 use Rattle.crossbar5_endings.proofs.Saying.{all_said, text_behind}
 use Rattle.crossbar5_endings.proofs.printing.finish.Goals as goal
 
