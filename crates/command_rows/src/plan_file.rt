@@ -1,3 +1,4 @@
+use crossbar5::Counted;
 use crossbar5_cli::{System, Work};
 use std::io;
 
@@ -11,11 +12,11 @@ pub struct PlanFile<'p> {
 }
 
 impl<'p> System for PlanFile<'p> {
-    type File = &'p [u8];
+    type File = Counted<&'p [u8]>;
 
-    fn open(&self, _name: &str) -> io::Result<&'p [u8]> {
+    fn open(&self, _name: &str) -> io::Result<Counted<&'p [u8]>> {
         match self.text {
-            Some(text) => Ok(text.as_bytes()),
+            Some(text) => Ok(Counted::new(text.as_bytes())),
             None => Err(io::Error::from_raw_os_error(NO_SUCH_FILE)),
         }
     }

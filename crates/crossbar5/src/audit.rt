@@ -31,16 +31,23 @@ pub fn audit_text(alloc: Global, plan: &Plan, text: &[u8]) -> Result<Written, Al
     })
 }
 
-/// The diagnostic of a text that isn't one of records. None for other findings or without memory.
-fn diagnostic_of(alloc: Global, finding: &Finding, text: &[u8]) -> Option<Diagnostic>
+/// The diagnostic of a text that isn't one of records. None for other findings.
+fn diagnostic_of(
+    alloc: Global,
+    finding: &Finding,
+    text: &[u8],
+) -> Result<Option<Diagnostic>, AllocError>
     ensures { ReportsFaultOf result (finding_text finding.now) (finding_status finding.now) }
 {
-    let Finding::NoReport { line } = finding else {
-        return None;
-    };
-    match report_diagnostic(alloc, text, *line) {
-        Ok(diagnostic) => Some(Diagnostic::Report(diagnostic)),
-        Err(_) => None,
+    match finding {
+        Finding::NoReport { line } => match report_diagnostic(alloc, text, *line) {
+            Ok(diagnostic) => Ok(Some(Diagnostic::Report(diagnostic))),
+            Err(error) => Err(error),
+        },
+        Finding::Legal { .. }
+        | Finding::WrongCounts { .. }
+        | Finding::WrongReply { .. }
+        | Finding::WrongTurn { .. } => Ok(None),
     }
 }
 

@@ -30,7 +30,7 @@ pub fn draw_text(alloc: Global, plan: &Plan, look: Look, text: &[u8]) -> Result<
     Ok(Written {
         text: drawn(alloc, plan, look, text)?.into_bytes(),
         status: Status::Fine,
-        diagnostic: None,
+        diagnostic: Ok(None),
     })
 }
 

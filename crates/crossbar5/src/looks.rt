@@ -140,7 +140,7 @@ fn shown(
     Ok(Written {
         text,
         status: Status::Fine,
-        diagnostic: None,
+        diagnostic: Ok(None),
     })
 }
 

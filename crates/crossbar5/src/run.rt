@@ -47,7 +47,7 @@ fn settled(alloc: Global, mut office: Exchange<'_>) -> Result<Written, AllocErro
     Ok(Written {
         text: report(alloc, office.records(), paths, closed)?,
         status: Status::Fine,
-        diagnostic: None,
+        diagnostic: Ok(None),
     })
 }
 

@@ -109,7 +109,7 @@ fn walk_settling_rows(mut office: Exchange<'_>, mut story: Story) -> Result<Writ
     Ok(Written {
         text: text.into_bytes(),
         status: Status::Fine,
-        diagnostic: None,
+        diagnostic: Ok(None),
     })
 }
 

@@ -1,6 +1,6 @@
 -- Diagnostics, and the refusals that they explain.
-use Rattle.std.specs.Prelude.{◌≡◌, ◌++◌, ℕ, List, Option, codes, decimal}
-use Rattle.std.specs.Option.{ForSome}
+use Rattle.std.specs.Prelude.{◌≡◌, ◌++◌, ℕ, Bool, true, false, List, Option, None, Some, Result, Ok, Err, codes, decimal}
+use Rattle.std.specs.declared.alloc.AllocError.{AllocError}
 use Rattle.xbar_traffic.specs.Fault.{fault_line}
 use Rattle.crossbar5_answer.specs.PlanRefusal.{plan_fault_line}
 use Rattle.crossbar5_answer.specs.declared.diagnostic.Diagnostic.{Diagnostic}
@@ -24,11 +24,32 @@ status_of (Plan diagnostic) = PlanRefused
 status_of (Traffic diagnostic) = TrafficRefused
 status_of (Report diagnostic) = ReportRefused
 
--- if there is a diagnostic, the text and the status report that its fault refused the run
-abbrev pub ReportsFaultOf : Option Diagnostic → List ℕ → Status → Type 0
-ReportsFaultOf diagnostic text status =
-    ForSome diagnostic (λ diagnostic. (text ≡ line_of diagnostic) × (status ≡ status_of diagnostic))
+-- whether this is the status of a run whose plan, traffic or text of records is refused
+abbrev pub refuses : Status → Bool
+refuses PlanRefused = true
+refuses TrafficRefused = true
+refuses ReportRefused = true
+refuses _ = false
 
--- if there is a diagnostic, the status is that of a run refused for its fault
-abbrev pub HasItsStatus : Option Diagnostic → Status → Type 0
-HasItsStatus diagnostic status = ForSome diagnostic (λ diagnostic. status ≡ status_of diagnostic)
+-- a diagnostic; none; or, as an error, that memory for a diagnostic ran out
+abbrev pub Explanation : Type 0
+Explanation = Result (Option Diagnostic) AllocError
+
+-- there is a diagnostic exactly if the run is refused, and the status is that of a run refused for
+-- its fault; for a refused run, memory for it may have run out
+abbrev pub HasItsStatus : Explanation → Status → Type 0
+HasItsStatus explanation status =
+    ((diagnostic : Diagnostic) → explanation ≡ Ok (Some diagnostic) → status ≡ status_of diagnostic)
+    × (explanation ≡ Ok None → refuses status ≡ false)
+    × ((error : AllocError) → explanation ≡ Err error → refuses status ≡ true)
+
+-- if there is a diagnostic, the text is the line of its fault
+abbrev pub HasItsLine : Explanation → List ℕ → Type 0
+HasItsLine explanation text =
+    (diagnostic : Diagnostic) → explanation ≡ Ok (Some diagnostic) → text ≡ line_of diagnostic
+
+-- there is a diagnostic exactly if the run is refused, unless memory for it ran out; and the text
+-- and the status report that its fault refused the run
+abbrev pub ReportsFaultOf : Explanation → List ℕ → Status → Type 0
+ReportsFaultOf explanation text status =
+    HasItsLine explanation text × HasItsStatus explanation status

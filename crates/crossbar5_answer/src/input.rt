@@ -1,19 +1,19 @@
 //! The input of the engine: a plan, and all that a source gives.
 
-ghost use Rattle.std.specs.Prelude.{◌≡◌, ◌≢◌, Err, IfErr, IfOk, IfSome, OnOk};
+ghost use Rattle.std.specs.Prelude.{◌≡◌, ◌≢◌, Err, IfErr, IfOk, OnOk};
 ghost use Rattle.std.specs.Io.KnownBytes.{IsAtEnd};
 ghost use Rattle.counted_io.specs.Counts.{HasFailed, ReadsUsedUp};
 ghost use Rattle.crossbar5_answer.specs.Input.{IsInputOf};
 ghost use Rattle.crossbar5_answer.specs.PlanRefusal.{IsPlanRefusal, IsRefusedPlan, plan_fault_line};
-ghost use Rattle.crossbar5_answer.specs.Refusal.{line_of, status_of};
+ghost use Rattle.crossbar5_answer.specs.Refusal.{ReportsFaultOf};
 
 use crate::diagnostic::Diagnostic;
 use crate::engine_fault::EngineFault;
 use crate::status::Status;
 use crate::written::Written;
 use counted_io::{Source, read_all};
-use std::alloc::Global;
-use xbar_diagnostics::plan_diagnostic;
+use std::alloc::{AllocError, Global};
+use xbar_diagnostics::{PlanDiagnostic, plan_diagnostic};
 use xbar_plan::{Plan, PlanFault};
 use xbar_plan_text::PlanText;
 
@@ -40,14 +40,21 @@ fn refuse_plan(alloc: Global, plan: &[u8], fault: PlanFault) -> Result<Written, 
     })
 }
 
-/// The diagnostic of a plan refused for this fault. None if none is found, or if memory runs out.
-fn diagnostic_of(alloc: Global, plan: &[u8], fault: PlanFault) -> Option<Diagnostic>
-    ensures line { IfSome result (λ diagnostic. line_of diagnostic ≡ plan_fault_line fault) }
-    ensures status { IfSome result (λ diagnostic. status_of diagnostic ≡ Status.PlanRefused) }
+/// The diagnostic of a plan refused for this fault. It has no place if none is found.
+fn diagnostic_of(
+    alloc: Global,
+    plan: &[u8],
+    fault: PlanFault,
+) -> Result<Option<Diagnostic>, AllocError>
+    ensures { ReportsFaultOf result (plan_fault_line fault) Status.PlanRefused }
 {
     match plan_diagnostic(alloc, plan, fault) {
-        Ok(Some(diagnostic)) => Some(Diagnostic::Plan(diagnostic)),
-        Ok(None) | Err(_) => None,
+        Ok(Some(diagnostic)) => Ok(Some(Diagnostic::Plan(diagnostic))),
+        Ok(None) => match PlanDiagnostic::without_place(alloc, fault) {
+            Ok(diagnostic) => Ok(Some(Diagnostic::Plan(diagnostic))),
+            Err(error) => Err(error),
+        },
+        Err(error) => Err(error),
     }
 }
 

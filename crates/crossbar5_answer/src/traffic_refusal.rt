@@ -1,15 +1,15 @@
 //! What is written for traffic that is refused.
 
-ghost use Rattle.std.specs.Prelude.{◌≡◌, IfOk, IfSome};
+ghost use Rattle.std.specs.Prelude.{IfOk};
 ghost use Rattle.xbar_traffic.specs.Fault.{fault_line};
-ghost use Rattle.crossbar5_answer.specs.Refusal.{line_of, status_of};
+ghost use Rattle.crossbar5_answer.specs.Refusal.{ReportsFaultOf};
 ghost use Rattle.crossbar5_answer.specs.TrafficRefusal.{IsTrafficRefusal};
 
 use crate::diagnostic::Diagnostic;
 use crate::status::Status;
 use crate::written::Written;
 use std::alloc::{AllocError, Global};
-use xbar_diagnostics::traffic_diagnostic;
+use xbar_diagnostics::{TrafficDiagnostic, traffic_diagnostic};
 use xbar_traffic::{Mode, TrafficFault};
 
 /// What is written for traffic of these bytes and this mode that is refused for this fault.
@@ -28,13 +28,18 @@ pub fn refused(
     })
 }
 
-/// The diagnostic of traffic refused for this fault. None if none is found, or if memory runs out.
-fn diagnostic_of(alloc: Global, mode: Mode, bytes: &[u8], fault: TrafficFault) -> Option<Diagnostic>
-    ensures line { IfSome result (λ diagnostic. line_of diagnostic ≡ fault_line fault) }
-    ensures status { IfSome result (λ diagnostic. status_of diagnostic ≡ Status.TrafficRefused) }
+/// The diagnostic of traffic refused for this fault. It has no place if none is found.
+fn diagnostic_of(
+    alloc: Global,
+    mode: Mode,
+    bytes: &[u8],
+    fault: TrafficFault,
+) -> Result<Option<Diagnostic>, AllocError>
+    ensures { ReportsFaultOf result (fault_line fault) Status.TrafficRefused }
 {
     match traffic_diagnostic(alloc, mode, bytes, fault) {
-        Ok(Some(diagnostic)) => Some(Diagnostic::Traffic(diagnostic)),
-        Ok(None) | Err(_) => None,
+        Ok(Some(diagnostic)) => Ok(Some(Diagnostic::Traffic(diagnostic))),
+        Ok(None) => Ok(Some(Diagnostic::Traffic(TrafficDiagnostic::without_place(fault)))),
+        Err(error) => Err(error),
     }
 }

@@ -2,12 +2,14 @@ ghost use Rattle.crossbar5_answer.specs.Refusal.{ReportsFaultOf};
 
 use crate::diagnostic::Diagnostic;
 use crate::status::Status;
+use std::alloc::AllocError;
 
-/// The text of a run, its status, and the diagnostic of what it refused, if there is one.
+/// The text of a run, its status, and a diagnostic if it refused something. The diagnostic is an
+/// error if memory for it ran out.
 #[derive(Debug, Drop)]
 pub struct Written {
     pub text: Vec<u8>,
     pub status: Status,
-    pub diagnostic: Option<Diagnostic>,
+    pub diagnostic: Result<Option<Diagnostic>, AllocError>,
     pub ghost refusal: { ReportsFaultOf diagnostic text.items status },
 }

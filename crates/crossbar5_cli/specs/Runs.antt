@@ -1,43 +1,60 @@
 -- How runs end that do what is asked for.
-use Rattle.std.specs.Prelude.{◌≡◌, ◌⊎◌, ℕ, List, Option, None, Some}
+use Rattle.std.specs.Prelude.{◌≡◌, ◌⊎◌, ℕ, List, Option, None, Some, ⊤}
 use Rattle.std.specs.Borrow.{Bor}
 use Rattle.std.specs.Io.KnownBytes.{Keeps}
 use Rattle.std.specs.declared.io.Error.{Error}
 use Rattle.xbar_moves.specs.declared.kind.Kind.{Kind}
 use Rattle.crossbar5_answer.specs.Faults.{ComesFirst}
+use Rattle.crossbar5_answer.specs.Refusal.{Explanation}
 use Rattle.crossbar5_answer.specs.declared.engine_fault.EngineFault.{EngineFault}
-use Rattle.crossbar5_answer.specs.declared.engine_fault.EngineFault.TheVariants.{Markers, Memory}
-use Rattle.crossbar5_answer.specs.declared.diagnostic.Diagnostic.{Diagnostic}
+use Rattle.crossbar5_answer.specs.declared.engine_fault.EngineFault.TheVariants.{Device, Long, Markers, Memory}
 use Rattle.crossbar5_answer.specs.declared.status.Status.{Status}
 use Rattle.crossbar5_command.specs.declared.ask.Ask.{Ask}
 use Rattle.crossbar5_endings.specs.Sentences.{End, FileName, sentence_on_fault}
 use Rattle.crossbar5_endings.specs.Sentences.{sentence_on_parts, sentence_on_plan_file, sentence_on_live_markers}
 use Rattle.crossbar5_endings.specs.Asks.{IsWithoutKinds}
-use Rattle.crossbar5_endings.specs.Named.{Files, IsPlanNamed, NamesKinds, file_of, letters_of, name_in}
+use Rattle.crossbar5_endings.specs.Named.{Files, IsPlanFault, IsPlanNamed, NamesKinds, file_of, letters_of, name_in}
 use Rattle.crossbar5_endings.specs.declared.ending.Ending.{Ending}
 use Rattle.crossbar5_endings.specs.declared.ending.Ending.TheVariants.{Answered, Failed}
 use Rattle.crossbar5_endings.specs.declared.sentence.Sentence.{Sentence}
-use Rattle.crossbar5_cli.specs.Work.{IsAnswer, IsDiagnosticOf, work_of}
+use Rattle.crossbar5_cli.specs.Work.{HasMarkers, IsAnswer, IsDiagnosticOf, IsUnread, work_of}
 use Rattle.crossbar5_cli.specs.declared.work.Work.{Work}
 use Rattle.crossbar5_cli.specs.declared.work.Work.TheVariants.{Calls, Task}
 
--- the streams of a run: what was left to read before it, if that is known; the number of times
--- that reading failed in it; and what its output is known to contain before it and after it
-pub record Streams : Type 0 where
+-- the input and the output of a run, before it and after it
+pub record Streams : Type 1 where
+  -- what was left to read before, if that is known
   pub unread : Option (List ℕ)
+  -- the input is as it was, so nothing was read
+  pub IsUntouched : Type 0
+  -- the input was read to its end
+  pub IsReadToEnd : Type 0
+  -- the number of times that reading failed
   pub failures : ℕ
+  -- so many reads gave bytes that no more are allowed
+  pub HasTooManyReads : Type 0
+  -- what the output is known to contain before and after
   pub before : Option (List ℕ)
   pub after : Option (List ℕ)
+  -- the output is as it was
+  pub IsUnwritten : Type 0
+  -- a read, a write or a flush failed
+  pub HasFailure : Type 0
+  -- none failed
+  pub HasNoFailure : Type 0
 
--- the engine answered the work with this status, with the plan of this file
+-- the engine answered the work with this status, with the plan of this file. The input was read to
+-- its end, or not at all if the work was refused before
 pub record IsAnsweredRun (work : Work) (file : FileName) (files : Files) (streams : Streams)
     (end : End) (status : Status) : Type 0 where
   pub plan : List ℕ
   pub named : IsPlanNamed files (name_in file) plan
   pub lines : List ℕ
   pub answer : IsAnswer work plan streams.unread streams.before streams.after status lines
+  pub unread : IsUnread work plan → streams.IsUntouched
+  pub read : ¬ IsUnread work plan → streams.IsReadToEnd
   pub reasons_are : end.reasons ≡ Some lines
-  pub diagnostic : Option Diagnostic
+  pub diagnostic : Explanation
   pub diagnostic_is : IsDiagnosticOf work streams.before streams.after status lines diagnostic
   pub sentence_is : end.sentence ≡ sentence_on_parts file diagnostic status lines
 
@@ -47,28 +64,48 @@ sentence_on_markers (Task task) fault = None
 sentence_on_markers (Calls dialling completing) fault =
     sentence_on_live_markers fault dialling completing
 
--- the sentence on a fault: of the run, in which reading failed this many times, or of the plan's
--- file
-abbrev pub IsSentenceOn : Work → FileName → ℕ → EngineFault → Option Sentence → Type 0
-IsSentenceOn work file failures Markers sentence = sentence ≡ sentence_on_markers work Markers
-IsSentenceOn work file failures Memory sentence = sentence ≡ None
-IsSentenceOn work file failures fault sentence =
-    (sentence ≡ sentence_on_fault fault failures)
-    ⊎ ((name : Bor (List ℕ)) × (reason : Option Error) × (file ≡ Some name)
-    × (sentence ≡ sentence_on_plan_file fault (Some name) reason))
+-- the cause of a fault of a run, which isn't the plan's file
+abbrev pub IsCause : Work → Streams → EngineFault → Type 0
+IsCause work streams Markers = ¬ HasMarkers work × streams.IsUntouched
+IsCause work streams Memory = ⊤
+IsCause work streams Device = streams.HasFailure
+IsCause work streams Long = streams.HasTooManyReads
 
--- something failed. Nothing is written, unless a device failed
-pub record IsFailedRun (work : Work) (file : FileName) (streams : Streams) (end : End)
+-- the sentence on such a fault, if reading failed this many times
+abbrev pub sentence_on_cause : Work → ℕ → EngineFault → Option Sentence
+sentence_on_cause work failures Markers = sentence_on_markers work Markers
+sentence_on_cause work failures fault = sentence_on_fault fault failures
+
+-- the run failed, with this sentence
+pub record FailsItself (work : Work) (streams : Streams) (sentence : Option Sentence)
     (fault : EngineFault) : Type 0 where
+  pub cause : IsCause work streams fault
   pub unwritten : ComesFirst fault → Keeps streams.before streams.after
+  pub sentence_is : sentence ≡ sentence_on_cause work streams.failures fault
+
+-- the plan's file couldn't be opened or read, or memory ran out for the plan's text. Then nothing
+-- was read or written
+pub record FailsAtPlan (file : FileName) (files : Files) (streams : Streams)
+    (sentence : Option Sentence) (fault : EngineFault) : Type 0 where
+  pub cause : IsPlanFault files (name_in file) fault
+  pub unread : streams.IsUntouched
+  pub unwritten : streams.IsUnwritten
+  pub reason : Option Error
+  pub sentence_is : sentence ≡ sentence_on_plan_file fault file reason
+
+-- something failed: the run itself, or before it the plan's file
+pub record IsFailedRun (work : Work) (file : FileName) (files : Files) (streams : Streams)
+    (end : End) (fault : EngineFault) : Type 0 where
   pub reasons_are : end.reasons ≡ None
-  pub sentence_is : IsSentenceOn work file streams.failures fault end.sentence
+  pub why : FailsItself work streams end.sentence fault
+      ⊎ FailsAtPlan file files streams end.sentence fault
 
 -- a run of the work has this end, by its ending
 abbrev pub IsEndIn : Work → FileName → Files → Streams → End → Ending → Type 0
 IsEndIn work file files streams end (Answered status) =
     IsAnsweredRun work file files streams end status
-IsEndIn work file files streams end (Failed fault) = IsFailedRun work file streams end fault
+IsEndIn work file files streams end (Failed fault) =
+    IsFailedRun work file files streams end fault
 IsEndIn work file files streams end _ = ⊥
 
 -- a run of the work has this end
@@ -84,8 +121,13 @@ pub record IsWithKinds (ask : Ask) (files : Files) (streams : Streams) (end : En
   pub file_is : name_in file ≡ file_of ask
   pub ends : IsEndOf (work_of ask kinds) file files streams end
 
+-- the kinds of the markers aren't available, so nothing was read or written
+pub record IsLeftWithoutKinds (ask : Ask) (streams : Streams) (end : End) : Type 0 where
+  pub without : IsWithoutKinds ask end
+  pub unread : streams.IsUntouched
+  pub unwritten : streams.IsUnwritten
+
 -- a run that does what is asked for ends like this
 abbrev pub IsEndAsAsked : Ask → Files → Streams → End → Type 0
 IsEndAsAsked ask files streams end =
-    (IsWithoutKinds ask end × Keeps streams.before streams.after)
-    ⊎ IsWithKinds ask files streams end
+    IsLeftWithoutKinds ask streams end ⊎ IsWithKinds ask files streams end

@@ -7,8 +7,7 @@ use Rattle.xbar_walk.specs.declared.detail.Detail.{Detail}
 use Rattle.xbar_walk.specs.declared.detail.Detail.TheVariants as detail
 use Rattle.crossbar5_answer.specs.Faults.{IsLiveMarkerCount}
 use Rattle.crossbar5_answer.specs.PlanRefusal.{IsRefusedPlan}
-use Rattle.crossbar5_answer.specs.Refusal.{ReportsFaultOf}
-use Rattle.crossbar5_answer.specs.declared.diagnostic.Diagnostic.{Diagnostic}
+use Rattle.crossbar5_answer.specs.Refusal.{Explanation, ReportsFaultOf}
 use Rattle.crossbar5_answer.specs.declared.status.Status.{Status}
 use Rattle.crossbar5.specs.Task.{HasItsMarkers, IsDone, output_of as task_output, reasons_of as task_reasons}
 use Rattle.crossbar5.specs.declared.look.Look.{Look}
@@ -99,9 +98,10 @@ pub record IsAnswer (work : Work) (plan : List ℕ) (unread before after : Optio
   pub written : Appends before after (output_of work status text)
   pub reasons_are : reasons ≡ reasons_of work status text
 
--- the answer's diagnostic, if there is one, is of the fault that its text reports
+-- the answer has a diagnostic exactly if it is a refusal, unless memory for it ran out: of the fault
+-- that its text reports
 pub record IsDiagnosticOf (work : Work) (before after : Option (List ℕ)) (status : Status)
-    (reasons : List ℕ) (diagnostic : Option Diagnostic) : Type 0 where
+    (reasons : List ℕ) (diagnostic : Explanation) : Type 0 where
   pub text : List ℕ
   pub written : Appends before after (output_of work status text)
   pub reasons_are : reasons ≡ reasons_of work status text

@@ -1,12 +1,11 @@
 //! Does what a command line asks for.
 
-ghost use Rattle.std.specs.Prelude.{◌≡◌, ◌≢◌, ◌-◌, ◌⊎◌, ◌↔◌, Err, IfErr, IfOk, IsSome, None, option_map};
+ghost use Rattle.std.specs.Prelude.{◌≡◌, ◌≢◌, ◌-◌, ◌⊎◌, ◌↔◌, Err, IfErr, IfOk, None, option_map};
 ghost use Rattle.std.specs.Io.KnownBytes.{IsAtEnd};
 ghost use Rattle.counted_io.specs.Counts.{HasFailed, ReadsUsedUp};
 ghost use Rattle.crossbar5_endings.specs.Asks.{IsWithoutKinds, MayEndAsked, NamesNone, RefusesMarkers};
 ghost use Rattle.crossbar5_endings.specs.Endings.{IsOfRun};
-ghost use Rattle.crossbar5_endings.specs.Named as specs;
-ghost use Rattle.crossbar5_endings.specs.Named.{IsPlanNamed, NamesKinds, name_in};
+ghost use Rattle.crossbar5_endings.specs.Named.{IsPlanFault, IsPlanNamed, NamesKinds, files_of, name_in};
 ghost use Rattle.crossbar5_cli.specs.Runs.{IsEndAsAsked, IsEndOf, sentence_on_markers};
 ghost use Rattle.crossbar5_cli.specs.Work.{HasMarkers, IsReady};
 
@@ -34,12 +33,22 @@ pub fn do_as_asked<'w, T: Threads + Wait + Sync, S: System, R: Source, W: Sink>(
     input: &mut R,
     output: &mut W,
 ) -> Ended<'w>
-    ensures ends { IsEndAsAsked ask.now (S.bytes_in system.now)
+    ensures ends { IsEndAsAsked ask.now
+        (files_of (S.Opens system.now) (λ file. S.File.remaining file)
+        (λ file. S.File.failure_count file) (λ file. S.File.read_count file))
         (record {
           unread = R.remaining input.old;
+          IsUntouched = (input.new ≡ input.old);
+          IsReadToEnd = IsAtEnd (R.remaining input.new);
           failures = R.failure_count input.new - R.failure_count input.old;
+          HasTooManyReads = ReadsUsedUp (R.read_count input.old) (R.read_count input.new);
           before = W.contents output.old;
           after = W.contents output.new;
+          IsUnwritten = (output.new ≡ output.old);
+          HasFailure = HasFailed (R.failure_count input.old) (R.failure_count input.new)
+              ⊎ HasFailed (W.failure_count output.old) (W.failure_count output.new);
+          HasNoFailure = (R.failure_count input.new ≡ R.failure_count input.old)
+              × (W.failure_count output.new ≡ W.failure_count output.old);
         })
         (record {
           ending = result.ending;
@@ -47,16 +56,9 @@ pub fn do_as_asked<'w, T: Threads + Wait + Sync, S: System, R: Source, W: Sink>(
           sentence = result.sentence;
         }) }
     ensures may { MayEndAsked ask.now result.ending }
-    ensures device { result.ending ≡ Ending.Failed EngineFault.Device
-        → HasFailed (R.failure_count input.old) (R.failure_count input.new)
-        ⊎ HasFailed (W.failure_count output.old) (W.failure_count output.new)
-        ⊎ IsSome (specs.file_of ask.now) }
     ensures no_failure { result.ending ≢ Ending.Failed EngineFault.Device
         → (R.failure_count input.new ≡ R.failure_count input.old)
         × (W.failure_count output.new ≡ W.failure_count output.old) }
-    ensures long { result.ending ≡ Ending.Failed EngineFault.Long →
-        ReadsUsedUp (R.read_count input.old) (R.read_count input.new)
-        ⊎ IsSome (specs.file_of ask.now) }
     ensures unread { RefusesMarkers ask.now → input.new ≡ input.old }
 {
     match kinds_for(alloc, ask) {
@@ -84,12 +86,22 @@ fn perform<'w, T: Threads + Wait + Sync, S: System, R: Source, W: Sink>(
     output: &mut W,
 ) -> Ended<'w>
     requires { IsReady work }
-    ensures ends { IsEndOf work.entry file.entry (S.bytes_in system.now)
+    ensures ends { IsEndOf work.entry file.entry
+        (files_of (S.Opens system.now) (λ file. S.File.remaining file)
+        (λ file. S.File.failure_count file) (λ file. S.File.read_count file))
         (record {
           unread = R.remaining input.old;
+          IsUntouched = (input.new ≡ input.old);
+          IsReadToEnd = IsAtEnd (R.remaining input.new);
           failures = R.failure_count input.new - R.failure_count input.old;
+          HasTooManyReads = ReadsUsedUp (R.read_count input.old) (R.read_count input.new);
           before = W.contents output.old;
           after = W.contents output.new;
+          IsUnwritten = (output.new ≡ output.old);
+          HasFailure = HasFailed (R.failure_count input.old) (R.failure_count input.new)
+              ⊎ HasFailed (W.failure_count output.old) (W.failure_count output.new);
+          HasNoFailure = (R.failure_count input.new ≡ R.failure_count input.old)
+              × (W.failure_count output.new ≡ W.failure_count output.old);
         })
         (record {
           ending = result.ending;
@@ -99,15 +111,9 @@ fn perform<'w, T: Threads + Wait + Sync, S: System, R: Source, W: Sink>(
     ensures run { IsOfRun result.ending }
     ensures markers { (result.ending ≡ Ending.Failed EngineFault.Markers)
         ↔ ¬ HasMarkers work.entry }
-    ensures device { result.ending ≡ Ending.Failed EngineFault.Device
-        → HasFailed (R.failure_count input.old) (R.failure_count input.new)
-        ⊎ HasFailed (W.failure_count output.old) (W.failure_count output.new)
-        ⊎ IsSome file.entry }
     ensures no_failure { result.ending ≢ Ending.Failed EngineFault.Device
         → (R.failure_count input.new ≡ R.failure_count input.old)
         × (W.failure_count output.new ≡ W.failure_count output.old) }
-    ensures long { result.ending ≡ Ending.Failed EngineFault.Long →
-        ReadsUsedUp (R.read_count input.old) (R.read_count input.new) ⊎ IsSome file.entry }
     ensures unread { ¬ HasMarkers work.entry → input.new ≡ input.old }
 {
     let gates = match gates_of(alloc, work) {
@@ -146,10 +152,15 @@ fn plan_named<S: System>(
     system: &S,
     file: Option<&str>,
 ) -> Result<Vec<u8>, EngineFault>
-    ensures named { IfOk result (λ plan.
-        IsPlanNamed (S.bytes_in system.now) (name_in file.entry) plan.items) }
+    ensures named { IfOk result (λ plan. IsPlanNamed
+        (files_of (S.Opens system.now) (λ file. S.File.remaining file)
+        (λ file. S.File.failure_count file) (λ file. S.File.read_count file))
+        (name_in file.entry) plan.items) }
+    ensures refused { IfErr result (IsPlanFault
+        (files_of (S.Opens system.now) (λ file. S.File.remaining file)
+        (λ file. S.File.failure_count file) (λ file. S.File.read_count file))
+        (name_in file.entry)) }
     ensures markers { result ≢ Err EngineFault.Markers }
-    ensures unnamed { file.entry ≡ None → IfErr result (λ fault. fault ≡ EngineFault.Memory) }
 {
     match file {
         None => plan_text::<S::File>(alloc, None),

@@ -1,5 +1,10 @@
 //! Runs `run_words` on the real words, files and streams.
 
+ghost use Rattle.std.specs.Prelude.{◌≡◌};
+ghost use Rattle.std.specs.Process.{exit_status};
+ghost use Rattle.crossbar5_endings.specs.Endings.{exit_of};
+ghost use Rattle.crossbar5_endings.specs.declared.ending.Ending.{Ending as TheEnding};
+
 use crate::program::run_words;
 use crate::progress::Progress;
 use crate::system::System;
@@ -16,8 +21,10 @@ use std::{env, io};
 
 /// Runs the program and returns its exit status. `threads` starts the threads of live calls and of
 /// the progress line; it may be the runtime itself. `build`, the last line of `--version`, names
-/// the kit and the commit that the program was built with.
-pub fn run<T: Threads + Wait + Sync>(rt: &HostRuntime, threads: &T, build: &str) -> ExitCode {
+/// the kit and the commit that the program was built with. The status is that of an ending.
+pub fn run<T: Threads + Wait + Sync>(rt: &HostRuntime, threads: &T, build: &str) -> ExitCode
+    ensures { (ending : TheEnding) × (exit_status result ≡ exit_of ending) }
+{
     let exit = match words(rt) {
         Ok(words) => run_owned(rt, threads, &words, build),
         Err(error) => end(rt, &Ended::plainly(ending_without_words(&error))),
@@ -32,7 +39,7 @@ fn words(rt: &HostRuntime) -> io::Result<Vec<String>> {
 
 /// Writes on standard error what belongs to this end.
 fn end(rt: &HostRuntime, ended: &Ended<'_>) -> Exit {
-    finish(ended, &mut Counted::new(rt.stderr()))
+    finish(rt.alloc(), ended, &mut Counted::new(rt.stderr()))
 }
 
 /// Runs the words, with the progress of a task if it is to be shown.
@@ -102,10 +109,17 @@ struct Host<'h> {
 }
 
 impl System for Host<'_> {
-    type File = File;
+    ghost use Rattle.std.specs.Prelude.{◌≡◌, IfOk};
+    ghost use Rattle.counted_io.specs.Counted.{counted_failures, counted_reads};
 
-    fn open(&self, name: &str) -> io::Result<File> {
-        File::open(self.rt, name)
+    type File = Counted<File>;
+
+    // Nothing is known of the file, but that no failure and no read was counted yet.
+    ghost Opens = { λ _ _ opened. IfOk opened
+        (λ file. (counted_failures file ≡ 0) × (counted_reads file ≡ 0)) };
+
+    fn open(&self, name: &str) -> io::Result<Counted<File>> {
+        Ok(Counted::new(File::open(self.rt, name)?))
     }
 
     /// On a terminal, prints what to type and how to end it. A failed write is ignored.

@@ -38,9 +38,10 @@ impl Progress {
         }
     }
 
-    /// Whether progress is shown: on a terminal, but not while its user types the input.
+    /// Whether progress is shown: only where standard error is a terminal, and neither standard
+    /// input nor standard output is one. So it disturbs neither what a user types nor the output.
     pub fn is_shown(rt: &HostRuntime) -> bool {
-        rt.stderr().is_terminal() && !rt.stdin().is_terminal()
+        rt.stderr().is_terminal() && !rt.stdin().is_terminal() && !rt.stdout().is_terminal()
     }
 
     /// Called when a task begins.

@@ -1,21 +1,22 @@
-ghost use Rattle.std.specs.Prelude.{◌≡◌, ℕ, List, Option, None, Some, IfOk, IfSome};
+ghost use Rattle.std.specs.Prelude.{ℕ, List, Result, ⊤};
+ghost use Rattle.std.specs.declared.io.Error.{Error};
 
 use crate::work::Work;
+use counted_io::Source;
 use std::io;
-use std::io::Read;
 
 /// What the program uses of the system besides its streams.
 pub trait System {
     /// An open file.
-    type File: Read + Drop;
+    type File: Source + Drop;
 
-    // The bytes in the file of this name, if they are known.
-    ghost bytes_in: { Self → List ℕ → Option (List ℕ) } = { λ _ _. None };
+    // Opening the file of this name may give this. A system of which nothing is known may give
+    // anything.
+    ghost Opens: { Self → List ℕ → Result Self.File Error → Type 0 } = { λ _ _ _. ⊤ };
 
     /// Opens the file of this name.
     fn open(&self, name: &str) -> io::Result<Self::File>
-        ensures { IfOk result (λ file. IfSome (bytes_in self.now name.now)
-            (λ all. Self.File.remaining file ≡ Some all)) };
+        ensures { Opens self.now name.now result };
 
     /// Called before the input of this work is read.
     fn begin(&self, work: Work<'_>);

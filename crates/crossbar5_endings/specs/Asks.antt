@@ -1,12 +1,12 @@
 -- What refuses the markers that are asked for, and how runs end that do what is asked for.
-use Rattle.std.specs.Prelude.{◌≡◌, ◌↔◌, List, None, Some, ℕ}
+use Rattle.std.specs.Prelude.{◌≡◌, ◌↔◌, ◌⊎◌, List, None, Some, ℕ}
 use Rattle.std.specs.Borrow.{Bor}
 use Rattle.std.specs.String.{string_bytes}
 use Rattle.xbar_moves.specs.declared.kind.Kind.{Kind}
-use Rattle.crossbar5_answer.specs.Faults.{ComesFirst, IsLiveMarkerCount}
+use Rattle.crossbar5_answer.specs.Faults.{IsLiveMarkerCount}
 use Rattle.crossbar5_answer.specs.Kinds.{Names}
 use Rattle.crossbar5_answer.specs.declared.engine_fault.EngineFault.{EngineFault}
-use Rattle.crossbar5_answer.specs.declared.engine_fault.EngineFault.TheVariants.{Markers}
+use Rattle.crossbar5_answer.specs.declared.engine_fault.EngineFault.TheVariants.{Markers, Memory}
 use Rattle.crossbar5_command.specs.declared.ask.Ask.{Ask}
 use Rattle.crossbar5_command.specs.declared.ask.Ask.TheVariants.{Audit, Draw, Live, Look, Page, Replay, Walk}
 use Rattle.crossbar5_endings.specs.Endings.{IsOfRun}
@@ -39,6 +39,6 @@ pub record IsWithoutKinds (ask : Ask) (end : End) : Type 0 where
   pub letters : Bor (List ℕ)
   pub letters_are : letters_of ask ≡ Some letters.now
   pub ending_is : end.ending ≡ Failed fault
-  pub first : ComesFirst fault
+  pub why : (fault ≡ Markers) ⊎ (fault ≡ Memory)
   pub reasons_are : end.reasons ≡ None
   pub sentence_is : end.sentence ≡ sentence_on_kinds fault letters

@@ -1,12 +1,18 @@
 -- What a command line names: the plan's file, and the kinds of the markers.
-use Rattle.std.specs.Prelude.{◌≡◌, [], ℕ, List, Option, None, Some, IfSome, Ok, option_map}
+use Rattle.std.specs.Prelude.{◌≡◌, ◌⊎◌, [], ℕ, List, Option, None, Some, IfSome, Result, Ok, Err, option_map, ⊤}
+use Rattle.std.specs.IoError.{error_kind}
 use Rattle.std.specs.String.{string_bytes}
+use Rattle.std.specs.declared.io.Error.{Error}
+use Rattle.counted_io.specs.Counts.{HasFailed, ReadsUsedUp}
 use Rattle.xbar_moves.specs.declared.kind.Kind.{Kind}
 use Rattle.xbar_plan_text.specs.Document.{plan_of}
 use Rattle.xbar_plan.specs.Example.{example}
 use Rattle.crossbar5_answer.specs.Kinds.{Names}
+use Rattle.crossbar5_answer.specs.declared.engine_fault.EngineFault.{EngineFault}
+use Rattle.crossbar5_answer.specs.declared.engine_fault.EngineFault.TheVariants.{Device, Long, Markers, Memory}
 use Rattle.crossbar5_command.specs.declared.ask.Ask.{Ask}
 use Rattle.crossbar5_command.specs.declared.ask.Ask.TheVariants.{Audit, Draw, Live, Look, Page, Replay, Walk}
+use Rattle.crossbar5_endings.specs.Causes.{opening_fault}
 use Rattle.crossbar5_endings.specs.Sentences.{FileName}
 
 -- the name of the plan's file, if one is named
@@ -34,16 +40,47 @@ abbrev pub NamesKinds : Option (List ℕ) → List Kind → Type 0
 NamesKinds (Some letters) kinds = Names letters kinds
 NamesKinds None kinds = kinds ≡ []
 
--- the bytes in files, by their names, as far as they are known
-abbrev pub Files : Type 0
-Files = List ℕ → Option (List ℕ)
+-- what reading the file of this name to its end may give: its text, or a fault
+abbrev pub Files : Type 1
+Files = List ℕ → Result (List ℕ) EngineFault → Type 0
+
+-- a file that was opened couldn't be read to its end for this fault: a read failed, or too many
+-- reads gave bytes. The functions give a file's failures and reads so far
+abbrev pub IsFileFault : {File : Type 0} → (File → ℕ) → (File → Option ℕ) → File → EngineFault
+    → Type 0
+IsFileFault {File} failures reads file Device =
+    (after : File) × HasFailed (failures file) (failures after)
+IsFileFault {File} failures reads file Long =
+    (after : File) × ReadsUsedUp (reads file) (reads after)
+IsFileFault failures reads file Memory = ⊤
+IsFileFault failures reads file Markers = ⊥
+
+-- the same for a file of this name, which couldn't be opened or read
+abbrev pub IsFaultOf : {File : Type 0} → (List ℕ → Result File Error → Type 0) → (File → ℕ)
+    → (File → Option ℕ) → List ℕ → EngineFault → Type 0
+IsFaultOf {File} Opens failures reads name fault =
+    ((error : Error) × Opens name (Err error) × (fault ≡ opening_fault (error_kind error)))
+    ⊎ ((file : File) × Opens name (Ok file) × IsFileFault failures reads file fault)
+
+-- what reading may give, by what opening may give. The functions give what is left to read in a
+-- file, if that is known, and its failures and reads so far
+abbrev pub files_of : {File : Type 0} → (List ℕ → Result File Error → Type 0)
+    → (File → Option (List ℕ)) → (File → ℕ) → (File → Option ℕ) → Files
+files_of {File} Opens remaining failures reads name (Ok text) =
+    (file : File) × Opens name (Ok file) × IfSome (remaining file) (λ all. text ≡ all)
+files_of Opens remaining failures reads name (Err fault) =
+    IsFaultOf Opens failures reads name fault
 
 -- the text of a file's name
 abbrev pub name_in : FileName → Option (List ℕ)
 name_in file = option_map (λ name. name.now) file
 
--- the plan's text is that of the named file, if it is known; if no file is named, it is a text of
--- the example plan
+-- the plan's text is that of the named file; if no file is named, it is a text of the example plan
 abbrev pub IsPlanNamed : Files → Option (List ℕ) → List ℕ → Type 0
-IsPlanNamed bytes_in None plan = plan_of plan ≡ Ok example
-IsPlanNamed bytes_in (Some name) plan = IfSome (bytes_in name) (λ all. plan ≡ all)
+IsPlanNamed files None plan = plan_of plan ≡ Ok example
+IsPlanNamed files (Some name) plan = files name (Ok plan)
+
+-- there is no plan's text for this fault: of the named file; or memory ran out for the example plan
+abbrev pub IsPlanFault : Files → Option (List ℕ) → EngineFault → Type 0
+IsPlanFault files None fault = fault ≡ Memory
+IsPlanFault files (Some name) fault = files name (Err fault)

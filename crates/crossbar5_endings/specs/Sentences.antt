@@ -5,6 +5,7 @@ use Rattle.std.specs.Option.{ForSome}
 use Rattle.std.specs.declared.io.Error.{Error}
 use Rattle.clap.specs.declared.error.kind.ErrorKind.{ErrorKind}
 use Rattle.clap.specs.declared.error.kind.ErrorKind.TheVariants.{ValueValidation}
+use Rattle.crossbar5_answer.specs.Refusal.{Explanation}
 use Rattle.crossbar5_answer.specs.declared.response.Response.{Response}
 use Rattle.crossbar5_answer.specs.declared.engine_fault.EngineFault.{EngineFault}
 use Rattle.crossbar5_answer.specs.declared.engine_fault.EngineFault.TheVariants.{Markers, Memory, Device, Long}
@@ -64,11 +65,13 @@ sentence_on_fault Memory failures = None
 sentence_on_fault Markers failures = None
 
 -- the sentence on a response with this diagnostic, this status and these reasons why nothing is
--- drawn: on the diagnostic, or that wrong records aren't drawn
-abbrev pub sentence_on_parts : FileName → Option Diagnostic → Status → List ℕ → Option Sentence
-sentence_on_parts file (Some diagnostic) status reasons = sentence_on_diagnostic file diagnostic
-sentence_on_parts file None FoundWrong (first ∷ rest) = Some NothingDrawn
-sentence_on_parts file None _ _ = None
+-- drawn: on the diagnostic, or that wrong records aren't drawn; none if memory for a diagnostic ran
+-- out
+abbrev pub sentence_on_parts : FileName → Explanation → Status → List ℕ → Option Sentence
+sentence_on_parts file (Ok (Some diagnostic)) status reasons =
+    sentence_on_diagnostic file diagnostic
+sentence_on_parts file (Ok None) FoundWrong (first ∷ rest) = Some NothingDrawn
+sentence_on_parts file _ _ _ = None
 
 -- the sentence on a response of the engine
 abbrev pub sentence_on_answer : FileName → Response → Option Sentence

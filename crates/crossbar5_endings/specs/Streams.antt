@@ -1,4 +1,4 @@
-use Rattle.std.specs.Prelude.{◌≡◌, ◌⊎◌, Bool, true, false}
+use Rattle.std.specs.Prelude.{◌≡◌, ◌⊎◌}
 use Rattle.clap.specs.Words.{kind_of}
 use Rattle.clap.specs.declared.error.kind.ErrorKind.{ErrorKind}
 use Rattle.clap.specs.declared.error.kind.ErrorKind.TheVariants.{DisplayHelp, DisplayVersion}
@@ -16,17 +16,12 @@ stream_of DisplayHelp = Output
 stream_of DisplayVersion = Output
 stream_of _ = Errors
 
--- how a run ends once clap's text was written to a stream, or couldn't be: words that are refused
--- are refused either way
-abbrev pub printed_on : Stream → Bool → Ending
-printed_on Errors _ = Refused
-printed_on Output true = Printed
-printed_on Output false = Failed Device
-
--- how a run may end that writes clap's text to a stream
+-- how a run may end that writes clap's text to a stream: words that are refused are refused
+-- whether it is written or not
 abbrev pub MayEndOn : Stream → Ending → Type 0
 MayEndOn Errors ending = ending ≡ Refused
-MayEndOn Output ending = (ending ≡ Printed) ⊎ (ending ≡ Failed Device)
+MayEndOn Output ending =
+    (ending ≡ Printed) ⊎ (ending ≡ Failed Device) ⊎ (ending ≡ Failed Memory)
 
 -- how a run may end whose words ask for nothing to be done
 abbrev pub MayEndOf : CommandFault → Ending → Type 0

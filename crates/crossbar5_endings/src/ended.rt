@@ -8,6 +8,7 @@ use crate::ending::Ending;
 use crate::sentence::Sentence;
 use clap::error::ErrorKind;
 use crossbar5_answer::{Diagnostic, EngineFault, Response, Status};
+use std::alloc::AllocError;
 use std::io;
 use xbar_diagnostics::kinds_diagnostic;
 
@@ -155,7 +156,7 @@ fn sentence_on_diagnostic(diagnostic: Diagnostic, file: Option<&str>) -> Option<
 
 /// The sentence on a response with this diagnostic, status and reasons why nothing is drawn.
 fn sentence_on_answer<'w>(
-    diagnostic: Option<Diagnostic>,
+    diagnostic: Result<Option<Diagnostic>, AllocError>,
     status: Status,
     reasons: &[u8],
     file: Option<&'w str>,
@@ -165,9 +166,14 @@ fn sentence_on_answer<'w>(
     ensures sentence { result ≡ specs.sentence_on_parts file.entry diagnostic status reasons.now }
 {
     match diagnostic {
-        Some(diagnostic) => sentence_on_diagnostic(diagnostic, file),
-        None if status == Status::FoundWrong && !reasons.is_empty() => Some(Sentence::NothingDrawn),
-        None => None,
+        Ok(found) => match found {
+            Some(diagnostic) => sentence_on_diagnostic(diagnostic, file),
+            None if status == Status::FoundWrong && !reasons.is_empty() => {
+                Some(Sentence::NothingDrawn)
+            }
+            None => None,
+        },
+        Err(_) => None,
     }
 }
 

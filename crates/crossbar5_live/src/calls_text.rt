@@ -105,7 +105,7 @@ pub fn live<G: Gate + Send + Drop, R: Threads + Wait + Sync>(
         Ok(outcome) => Ok(Written {
             text: text_of_calls(alloc, &outcome)?,
             status: Status::Fine,
-            diagnostic: None,
+            diagnostic: Ok(None),
         }),
         Err(RunFault::Memory) => Err(AllocError),
         Err(RunFault::Markers) => unreachable!(),

@@ -46,10 +46,10 @@ struct PlanText {
 }
 
 impl System for PlanText {
-    type File = &'static [u8];
+    type File = Counted<&'static [u8]>;
 
-    fn open(&self, _name: &str) -> io::Result<&'static [u8]> {
-        Ok(self.text.as_bytes())
+    fn open(&self, _name: &str) -> io::Result<Counted<&'static [u8]>> {
+        Ok(Counted::new(self.text.as_bytes()))
     }
 
     fn begin(&self, _work: Work<'_>) {}
@@ -64,10 +64,10 @@ struct RealFiles<'h> {
 }
 
 impl System for RealFiles<'_> {
-    type File = File;
+    type File = Counted<File>;
 
-    fn open(&self, name: &str) -> io::Result<File> {
-        File::open(self.rt, name)
+    fn open(&self, name: &str) -> io::Result<Counted<File>> {
+        Ok(Counted::new(File::open(self.rt, name)?))
     }
 
     fn begin(&self, _work: Work<'_>) {}

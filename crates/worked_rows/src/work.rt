@@ -109,7 +109,7 @@ fn written(
         diagnostic,
         reasons,
     } = answer_task(alloc, task, plan.as_bytes(), &mut source, &mut sink)?;
-    let diagnostic = match diagnostic {
+    let diagnostic = match diagnostic? {
         Some(diagnostic) => Some(diagnostic.to_string(alloc)?),
         None => None,
     };

@@ -1,6 +1,8 @@
+ghost use Rattle.std.specs.Prelude.{◌≡◌, IfOk};
+
 use super::list::PlanList;
 use crate::quoted::Quoted;
-use std::alloc::AllocError;
+use std::alloc::{AllocError, Global};
 use std::fmt;
 use xbar_plan::PlanFault;
 
@@ -23,6 +25,8 @@ impl fmt::Display for ItemText {
 /// The place in a plan where something is wrong.
 #[derive(Debug, Drop)]
 pub enum PlanPlace {
+    /// The place wasn't found again.
+    Unknown,
     /// A line and a column of the text, both counted from 1. A column counts characters.
     Text {
         line: usize,
@@ -50,6 +54,7 @@ pub enum PlanPlace {
 impl fmt::Display for PlanPlace {
     fn fmt<W: fmt::Write>(&self, f: &mut fmt::Formatter<W>) -> fmt::Result {
         match self {
+            PlanPlace::Unknown => f.write_str("somewhere"),
             PlanPlace::Text { line, column } => write!(f, "line {line}, column {column}"),
             PlanPlace::Version => f.write_str("version"),
             PlanPlace::List(list) => f.write_str(list.key()),
@@ -91,6 +96,19 @@ impl PlanWrong {
 pub struct PlanDiagnostic {
     pub fault: PlanFault,
     pub wrong: PlanWrong,
+}
+
+impl PlanDiagnostic {
+    /// The diagnostic of a plan that was refused for this fault, without a place.
+    pub fn without_place(alloc: Global, fault: PlanFault) -> Result<Self, AllocError>
+        ensures fault { IfOk result (λ diagnostic. diagnostic.fault ≡ fault) }
+    {
+        let wrong = PlanWrong {
+            place: PlanPlace::Unknown,
+            reason: String::from_str(alloc, "this fault was not found again")?,
+        };
+        Ok(PlanDiagnostic { fault, wrong })
+    }
 }
 
 impl fmt::Display for PlanDiagnostic {

@@ -1,3 +1,5 @@
+ghost use Rattle.std.specs.Prelude.{◌≡◌};
+
 use crate::quoted::Quoted;
 use std::fmt;
 use xbar_traffic::{RowFault, TrafficFault};
@@ -7,6 +9,8 @@ use xbar_traffic::{RowFault, TrafficFault};
 pub enum TrafficReason {
     /// In fixed words.
     Said(&'static str),
+    /// The fault wasn't found again in the row.
+    Unknown,
     /// The row has this number of fields instead of 5.
     FieldCount(usize),
     /// The field isn't a number from 0 to this one.
@@ -19,6 +23,7 @@ impl fmt::Display for TrafficReason {
     fn fmt<W: fmt::Write>(&self, f: &mut fmt::Formatter<W>) -> fmt::Result {
         match self {
             TrafficReason::Said(words) => f.write_str(words),
+            TrafficReason::Unknown => f.write_str("this fault was not found again"),
             TrafficReason::FieldCount(count) => write!(f, "expected 5 fields, found {count}"),
             TrafficReason::NoNumber(most) => {
                 write!(
@@ -37,19 +42,36 @@ impl fmt::Display for TrafficReason {
 #[derive(Debug, Drop)]
 pub struct TrafficDiagnostic {
     pub fault: TrafficFault,
-    /// The line on which the row begins, counted from 1.
-    pub line: u64,
+    /// The line on which the row begins, counted from 1. None if the row wasn't found again.
+    pub line: Option<u64>,
     /// The number of the wrong field, counted from 1, and its text. None if the row is wrong as a
     /// whole.
     pub field: Option<(usize, Vec<u8>)>,
     pub reason: TrafficReason,
 }
 
+impl TrafficDiagnostic {
+    /// The diagnostic of traffic that was refused for this fault, without a place in the row.
+    pub fn without_place(fault: TrafficFault) -> Self
+        ensures fault { result.fault ≡ fault }
+    {
+        TrafficDiagnostic {
+            fault,
+            line: None,
+            field: None,
+            reason: TrafficReason::Unknown,
+        }
+    }
+}
+
 impl fmt::Display for TrafficDiagnostic {
     fn fmt<W: fmt::Write>(&self, f: &mut fmt::Formatter<W>) -> fmt::Result {
         let TrafficFault { row, fault } = self.fault;
-        let (line, reason) = (self.line, self.reason);
-        write!(f, "traffic line {line} (row {row})")?;
+        let reason = self.reason;
+        match self.line {
+            Some(line) => write!(f, "traffic line {line} (row {row})")?,
+            None => write!(f, "traffic row {row}")?,
+        }
         if let Some((number, text)) = &self.field {
             let text = Quoted(text);
             write!(f, ", field {number} {text}")?;

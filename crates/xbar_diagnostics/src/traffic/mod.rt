@@ -40,7 +40,7 @@ pub fn traffic_diagnostic(
     };
     Ok(Some(TrafficDiagnostic {
         fault,
-        line: line_of(bytes, record),
+        line: Some(line_of(bytes, record)),
         field,
         reason,
     }))

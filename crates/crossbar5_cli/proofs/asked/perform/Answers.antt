@@ -1,22 +1,30 @@
-use Rattle.std.proofs.Common.{◌≡◌, ◌∙◌, ◌-◌, ℕ, List, Option, Result, Ok, Err, ap, option_map, rules, subst, sym}
-use Rattle.crossbar5_answer.specs.declared.response.Response.{Response}
-use Rattle.crossbar5_answer.specs.declared.engine_fault.EngineFault.{EngineFault}
-use Rattle.crossbar5_answer.specs.declared.engine_fault.EngineFault.TheVariants.{Device, Markers}
+use Rattle.std.proofs.Common.{◌≡◌, ◌∙◌, ◌-◌, ℕ, ap, option_map, refl, rules}
 use Rattle.crossbar5_endings.specs.Endings.{ending_of_run}
 use Rattle.crossbar5_endings.specs.Sentences.{sentence_on_run}
-use Rattle.crossbar5_endings.specs.declared.ending.Ending.TheVariants.{Failed}
-use Rattle.crossbar5_cli.proofs.Answering.{run_end}
+use Rattle.std.proofs.KnownBytes.{Keeps-refl}
+use Rattle.crossbar5_cli.proofs.Answering.{markers_end, plan_end, run_end}
 use Rattle.crossbar5_cli.proofs.asked.perform.Goals as goal
+
+pub returns-in-Err-clause-ends : goal.returns-in-Err-clause-ends
+returns-in-Err-clause-ends g c =
+    markers_end c.args.work c.args.file _ _ (option_map (λ lines. lines.items) c.without_markers.result.reasons) c.without_markers.result.sentence
+    c.without_markers.result.ending c.in-Err.fault c.in-Err.ensures.why (search rules) refl (Keeps-refl _)
+    c.without_markers.ensures.ending (search rules) c.without_markers.ensures.sentence
+
+pub returns-in-Err-plan_named-clause-ends : goal.returns-in-Err-plan_named-clause-ends
+returns-in-Err-plan_named-clause-ends g c =
+    plan_end c.args.work c.args.file _ _ (option_map (λ lines. lines.items) c.of_plan_file.result.reasons) c.of_plan_file.result.sentence
+    c.of_plan_file.result.ending c.in-Err-plan_named.fault c.reason_of.result c.in-Err-plan_named.ensures.refused refl refl
+    c.of_plan_file.ensures.ending (search rules) c.of_plan_file.ensures.sentence
 
 pub returns-clause-ends : goal.returns-clause-ends
 returns-clause-ends g c =
     let failures : ℕ = g.R.Source.failure_count c.answer-run.new.input - g.R.Source.failure_count c.args.input.now in
     let sentence : c.of_run.result.sentence ≡ sentence_on_run c.answer-run.result c.args.file failures = search rules in
-    run_end c.args.work c.args.file (g.S.System.bytes_in c.args.system.now) failures
-    (g.R.Read.remaining c.args.input.now) (g.W.Write.contents c.args.output.now) (g.W.Write.contents c.answer-run.new.output)
-    c.answer-run.result c.of_run.result.ending (option_map (λ lines. lines.items) c.of_run.result.reasons)
-    c.of_run.result.sentence c.in-Ok-plan_named.plan.items c.in-Ok-plan_named.ensures.named
-    (search rules) c.answer-run.ensures.diagnostic c.answer-run.ensures.unwritten (search rules)
+    run_end c.args.work c.args.file _ _ (option_map (λ lines. lines.items) c.of_run.result.reasons) c.of_run.result.sentence
+    c.answer-run.result c.of_run.result.ending c.in-Ok-plan_named.plan.items c.in-Ok-plan_named.ensures.named
+    (search rules) c.answer-run.ensures.diagnostic c.answer-run.ensures.unwritten (search rules) (search rules)
+    c.answer-run.ensures.device c.answer-run.ensures.long (search rules)
     c.of_run.ensures.ending c.of_run.ensures.reasons sentence
 
 pub returns-clause-no_failure : goal.returns-clause-no_failure

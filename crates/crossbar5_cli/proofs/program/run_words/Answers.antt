@@ -1,4 +1,4 @@
-use Rattle.std.proofs.Common.{◌-◌, Ok, option_map}
+use Rattle.std.proofs.Common.{Ok, option_map}
 use Rattle.crossbar5_cli.proofs.Answering.{done_ask}
 use Rattle.crossbar5_cli.proofs.program.run_words.Goals as goal
 
@@ -11,12 +11,9 @@ returns-in-Ok g c = record {
     taken = c.in-Ok.ensures.passes;
     faults = c.in-Ok.ensures.faults;
   };
-  does = done_ask c.in-Ok.ask (g.S.System.bytes_in c.args.system.now)
-      (g.R.Source.failure_count c.do_as_asked-ended.new.input - g.R.Source.failure_count c.args.input.now)
-      (g.R.Read.remaining c.args.input.now)
-      (record { before = g.W.Write.contents c.args.output.now; after = g.W.Write.contents c.do_as_asked-ended.new.output })
-      (record { before = g.E.Write.contents c.args.errors.now; after = g.E.Write.contents c.finish.new.errors })
-      c.finish.result.ending c.do_as_asked-ended.result.ending c.finish.result.is_printed
+  does = done_ask c.in-Ok.ask _ _ _ c.finish.result.ending c.do_as_asked-ended.result.ending c.finish.result.is_printed
       (option_map (λ lines. lines.items) c.do_as_asked-ended.result.reasons) c.do_as_asked-ended.result.sentence
-      c.finish.ensures.ending c.do_as_asked-ended.ensures.ends c.do_as_asked-ended.ensures.may c.finish.ensures.printed;
+      c.finish.ensures.ending c.do_as_asked-ended.ensures.ends c.do_as_asked-ended.ensures.may
+      c.do_as_asked-ended.ensures.no_failure c.do_as_asked-ended.ensures.unread
+      c.finish.ensures.printed c.finish.ensures.unprinted;
 }
