@@ -1,4 +1,6 @@
-use Rattle.std.proofs.Common.{◌≡◌, ◌∙◌, ◌-◌, ℕ, ap, option_map, refl, rules}
+use Rattle.std.proofs.Common.{◌≡◌, ◌∙◌, ◌-◌, ℕ, List, OnOk, ap, option_map, refl, rules, subst}
+use Rattle.std.specs.Io.KnownBytes.{IsAtEnd}
+use Rattle.crossbar5_cli.specs.Work.{IsUnread}
 use Rattle.crossbar5_endings.specs.Endings.{ending_of_run}
 use Rattle.crossbar5_endings.specs.Sentences.{sentence_on_run}
 use Rattle.std.proofs.KnownBytes.{Keeps-refl}
@@ -21,9 +23,11 @@ pub returns-clause-ends : goal.returns-clause-ends
 returns-clause-ends g c =
     let failures : ℕ = g.R.Source.failure_count c.answer-run.new.input - g.R.Source.failure_count c.args.input.now in
     let sentence : c.of_run.result.sentence ≡ sentence_on_run c.answer-run.result c.args.file failures = search rules in
+    let same : c.deref.result.now ≡ c.in-Ok-plan_named.plan.items = search rules in
+    let read = subst (λ (plan : List ℕ). OnOk c.answer-run.result (¬ IsUnread c.args.work plan → IsAtEnd (g.R.Read.remaining c.answer-run.new.input))) same c.answer-run.ensures.end in
     run_end c.args.work c.args.file _ _ (option_map (λ lines. lines.items) c.of_run.result.reasons) c.of_run.result.sentence
     c.answer-run.result c.of_run.result.ending c.in-Ok-plan_named.plan.items c.in-Ok-plan_named.ensures.named
-    (search rules) c.answer-run.ensures.diagnostic c.answer-run.ensures.unwritten (search rules) (search rules)
+    (search rules) c.answer-run.ensures.diagnostic c.answer-run.ensures.unwritten (search rules) read
     c.answer-run.ensures.device c.answer-run.ensures.long (search rules)
     c.of_run.ensures.ending c.of_run.ensures.reasons sentence
 
