@@ -1,6 +1,6 @@
 //! A desk's steps, and a worker's tries at a job, as another desk of the room sees them.
 
-ghost use Rattle.std.specs.Prelude.{◌≡◌, nat_lt};
+ghost use Rattle.std.specs.Prelude.{◌≡◌, ◌<◌, nat_lt};
 ghost use Rattle.desks.specs.Views.{IsDeskOf};
 
 use crate::slots_at_work::room_of_two;
@@ -10,6 +10,7 @@ use slot_desks::driving::{Shift, SlotDesk, SlotRoom, take_and_give};
 use slots::Job;
 use std::cell::RefCell;
 use std::marker::Model;
+use std::process::Abort;
 use std::test::Fail;
 use workers::{BackOff, Yielding, do_after, do_all, finish, persist};
 
@@ -170,20 +171,52 @@ fn no_lock_is_held_between_tries(rt: HostRuntime) -> Result<(), Fail> {
     Ok(())
 }
 
+/// Has a worker give back the slot of this number, and checks that the job ended.
+fn check_given(
+    rt: &impl Abort,
+    room: &SlotRoom,
+    one: &mut SlotDesk,
+    policy: &Looking<'_>,
+    slot: u32,
+)
+    requires desk { IsDeskOf one.old room.now tt }
+    requires slot { slot < 3 }
+    ensures { IsDeskOf one.new room.now tt }
+{
+    let number = u64::from(slot);
+    let note = one.note(room);
+    let reported = do_after(room, &(), one, note, number, Job::Give(slot), policy);
+    assert!(rt; reported.is_some_and(|reported| reported.number == number));
+}
+
 #[test]
 fn a_job_past_its_turn_is_brought_to_its_end(rt: HostRuntime) -> Result<(), Fail> {
     let alloc = rt.alloc();
     let (room, zero, mut one) = room_of_two(alloc)?;
     // Request and seize a lock, turn, clear the slot's bit. The lock is still held then.
     let policy = Looking::new(&room, zero, Vec::new(alloc), 4, 1);
-    for number in 0..3 {
-        let job = Job::Give(number as u32);
-        let note = one.note(&room);
-        let reported = do_after(&room, &(), &mut one, note, number, job, &policy);
-        assert!(rt; reported.is_some_and(|reported| reported.number == number));
-    }
+    check_given(&rt, &room, &mut one, &policy, 0);
+    check_given(&rt, &room, &mut one, &policy, 1);
+    check_given(&rt, &room, &mut one, &policy, 2);
     assert!(rt; policy.has_seen_free_locks(0));
     Ok(())
+}
+
+/// Gives a worker a job under this number, and checks that it does none, and is at job 1001.
+fn check_undone(
+    rt: &impl Abort,
+    room: &SlotRoom,
+    one: &mut SlotDesk,
+    policy: &Looking<'_>,
+    number: u64,
+)
+    requires { IsDeskOf one.old room.now tt }
+    ensures { IsDeskOf one.new room.now tt }
+{
+    let note = one.note(room);
+    assert!(rt; do_after(room, &(), one, note, number, Job::Take, policy).is_none());
+    assert!(rt; policy.has_seen_free_locks(2));
+    assert!(rt; one.doing().is_some_and(|(number, _)| number == 1_001));
 }
 
 #[test]
@@ -191,12 +224,8 @@ fn a_desk_that_is_not_free_does_no_other_job(rt: HostRuntime) -> Result<(), Fail
     let alloc = rt.alloc();
     let (room, zero, mut one) = room_of_two(alloc)?;
     let policy = Looking::new(&room, zero, Vec::new(alloc), 3, 2);
-    for (number, tries) in [(1_001, 2), (1_002, 2)] {
-        let note = one.note(&room);
-        assert!(rt; do_after(&room, &(), &mut one, note, number, Job::Take, &policy).is_none());
-        assert!(rt; policy.has_seen_free_locks(tries));
-        assert!(rt; one.doing().is_some_and(|(number, _)| number == 1_001));
-    }
+    check_undone(&rt, &room, &mut one, &policy, 1_001);
+    check_undone(&rt, &room, &mut one, &policy, 1_002);
     Ok(())
 }
 
