@@ -7,15 +7,22 @@ import tomllib
 from process import ROOT, ProgramTest, program
 
 DATA = os.path.join(ROOT, "crates/command_rows/data")
+# Rows that say something else than the program does, each in one point.
+DIFFERENT = "different.toml"
 # What those rows have as the last line of the version.
 BUILD = "a kit and a commit\n"
 
 
+def rows_of(file):
+    with open(os.path.join(DATA, file), "rb") as it:
+        return tomllib.load(it)["rows"]
+
+
 def rows():
-    """Each row with its file."""
+    """Each row that says what the program does, with its file."""
     for file in sorted(os.listdir(DATA)):
-        with open(os.path.join(DATA, file), "rb") as it:
-            yield from ((file, row) for row in tomllib.load(it)["rows"])
+        if file != DIFFERENT:
+            yield from ((file, row) for row in rows_of(file))
 
 
 def words_of(row):
@@ -62,6 +69,11 @@ class CommandRows(ProgramTest):
     def test_rows(self):
         for file, row in rows():
             with self.subTest(f"{file}, {row['name']}"):
+                self.check_row(row)
+
+    def test_different_rows(self):
+        for row in rows_of(DIFFERENT):
+            with self.subTest(row["name"]), self.assertRaises(AssertionError):
                 self.check_row(row)
 
     def test_all_were_read(self):
