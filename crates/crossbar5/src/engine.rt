@@ -5,6 +5,8 @@ ghost use Rattle.std.specs.Prelude.{◌≡◌, ◌≢◌, ◌↔◌, ◌⊎◌, 
 ghost use Rattle.std.specs.Io.KnownBytes.{Appends, IsAtEnd, Keeps};
 ghost use Rattle.counted_io.specs.Counts.{HasFailed, ReadsUsedUp};
 ghost use Rattle.crossbar5_answer.specs.Faults.{ComesFirst};
+ghost use Rattle.crossbar5_answer.specs.PlanPlaces.{ShowsPlace};
+ghost use Rattle.crossbar5_answer.specs.PlanRefusal.{IsRefusedPlan};
 ghost use Rattle.crossbar5_answer.specs.Refusal.{ReportsFaultOf};
 ghost use Rattle.crossbar5.specs.Task.{HasItsMarkers, IsDone, IsUnreadTask, output_of, reasons_of};
 
@@ -23,6 +25,8 @@ fn do_task<R: Source>(
     ensures done { IfOk result (λ written. (input : List ℕ) ×
         IfSome (R.remaining source.old) (λ all. input ≡ all) ×
         IsDone task.entry plan.now input written.text.items written.status) }
+    ensures place { IfOk result (λ written.
+        IsRefusedPlan plan.now → ShowsPlace plan.now written.diagnostic) }
     ensures markers { (result ≡ Err EngineFault.Markers) ↔ ¬ HasItsMarkers task.entry }
     ensures device { result ≡ Err EngineFault.Device
         → HasFailed (R.failure_count source.old) (R.failure_count source.new) }
@@ -69,6 +73,8 @@ pub fn answer_task<R: Source, W: Sink>(
         (output_of task.entry answer.status text) ×
         (answer.reasons.items ≡ reasons_of task.entry answer.status text) ×
         ReportsFaultOf answer.diagnostic text answer.status) }
+    ensures place { IfOk result (λ answer.
+        IsRefusedPlan plan.now → ShowsPlace plan.now answer.diagnostic) }
     ensures markers { (result ≡ Err EngineFault.Markers) ↔ ¬ HasItsMarkers task.entry }
     ensures device { result ≡ Err EngineFault.Device
         → HasFailed (R.failure_count source.old) (R.failure_count source.new)

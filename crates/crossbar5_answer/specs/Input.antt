@@ -1,7 +1,8 @@
 -- The input of a run.
-use Rattle.std.specs.Prelude.{◌≡◌, ℕ, List, Option, Ok, Err, IfSome}
+use Rattle.std.specs.Prelude.{◌≡◌, ℕ, List, Option, Ok, Err, IfSome, ⊤}
 use Rattle.xbar_plan_text.specs.Document.{plan_of}
 use Rattle.xbar_plan.specs.declared.fault.PlanFault.{PlanFault}
+use Rattle.crossbar5_answer.specs.PlanPlaces.{ShowsPlace}
 use Rattle.crossbar5_answer.specs.PlanRefusal.{IsPlanRefusal}
 use Rattle.crossbar5_answer.specs.declared.input.Input.{Input}
 use Rattle.crossbar5_answer.specs.declared.input.Input.TheVariants.{Read, Refused}
@@ -14,3 +15,8 @@ IsInputOf plan remaining (Read tables bytes) =
 IsInputOf plan remaining (Refused written) =
     (fault : PlanFault) × (plan_of plan ≡ Err fault)
     × IsPlanRefusal fault written.text.items written.status
+
+-- if the plan is refused, the diagnostic points to what is missing or malformed
+abbrev pub ShowsPlaceIfRefused : List ℕ → Input → Type 0
+ShowsPlaceIfRefused plan (Read tables bytes) = ⊤
+ShowsPlaceIfRefused plan (Refused written) = ShowsPlace plan written.diagnostic

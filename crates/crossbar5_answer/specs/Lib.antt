@@ -4,6 +4,7 @@ pub use Rattle.counted_io.specs.Counts
 pub mod Faults
 pub mod Kinds
 pub mod PlanRefusal
+pub mod PlanPlaces
 pub mod Refusal
 pub mod TrafficRefusal
 pub mod Input

@@ -3,7 +3,8 @@
 ghost use Rattle.std.specs.Prelude.{◌≡◌, ◌≢◌, Err, IfErr, IfOk, OnOk};
 ghost use Rattle.std.specs.Io.KnownBytes.{IsAtEnd};
 ghost use Rattle.counted_io.specs.Counts.{HasFailed, ReadsUsedUp};
-ghost use Rattle.crossbar5_answer.specs.Input.{IsInputOf};
+ghost use Rattle.crossbar5_answer.specs.Input.{IsInputOf, ShowsPlaceIfRefused};
+ghost use Rattle.crossbar5_answer.specs.PlanPlaces.{ShowsPlace};
 ghost use Rattle.crossbar5_answer.specs.PlanRefusal.{IsPlanRefusal, IsRefusedPlan, plan_fault_line};
 ghost use Rattle.crossbar5_answer.specs.Refusal.{ReportsFaultOf};
 
@@ -28,6 +29,7 @@ pub enum Input {
 fn refuse_plan(alloc: Global, plan: &[u8], fault: PlanFault) -> Result<Written, EngineFault>
     ensures written { IfOk result (λ written. (fault ≢ PlanFault.Memory) ×
         IsPlanRefusal fault written.text.items written.status) }
+    ensures place { IfOk result (λ written. ShowsPlace plan.now written.diagnostic) }
     ensures why { IfErr result (λ why. why ≡ EngineFault.Memory) }
 {
     if fault == PlanFault::Memory {
@@ -46,7 +48,8 @@ fn diagnostic_of(
     plan: &[u8],
     fault: PlanFault,
 ) -> Result<Option<Diagnostic>, AllocError>
-    ensures { ReportsFaultOf result (plan_fault_line fault) Status.PlanRefused }
+    ensures reports { ReportsFaultOf result (plan_fault_line fault) Status.PlanRefused }
+    ensures place { ShowsPlace plan.now result }
 {
     match plan_diagnostic(alloc, plan, fault) {
         Ok(Some(diagnostic)) => Ok(Some(Diagnostic::Plan(diagnostic))),
@@ -66,6 +69,7 @@ pub fn read_input<R: Source>(
     source: &mut R,
 ) -> Result<Input, EngineFault>
     ensures input { IfOk result (IsInputOf plan.now (R.remaining source.old)) }
+    ensures place { IfOk result (ShowsPlaceIfRefused plan.now) }
     ensures markers { result ≢ Err EngineFault.Markers }
     ensures device { result ≡ Err EngineFault.Device
         → HasFailed (R.failure_count source.old) (R.failure_count source.new) }
