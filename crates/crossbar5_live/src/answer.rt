@@ -4,7 +4,10 @@
 ghost use Rattle.std.specs.Prelude.{◌≡◌, ◌≢◌, ◌↔◌, ◌⊎◌, [], Err, IfErr, IfOk, IfSome, List, OnOk, ℕ, ◌+◌, vec_len};
 ghost use Rattle.std.specs.Io.KnownBytes.{Appends, IsAtEnd, Keeps};
 ghost use Rattle.counted_io.specs.Counts.{HasFailed, ReadsUsedUp};
+ghost use Rattle.xbar_markers.specs.Gates.{AreForMarkers};
 ghost use Rattle.crossbar5_answer.specs.Faults.{ComesFirst, IsLiveMarkerCount};
+ghost use Rattle.crossbar5_answer.specs.PlanPlaces.{ShowsPlace};
+ghost use Rattle.crossbar5_answer.specs.PlanRefusal.{IsRefusedPlan};
 ghost use Rattle.crossbar5_answer.specs.Refusal.{ReportsFaultOf};
 ghost use Rattle.crossbar5_live.specs.Live.{IsLive, IsLiveUnread};
 
@@ -27,10 +30,13 @@ fn do_live<G: Gate + Send + Drop, T: Threads + Wait + Sync, R: Source>(
     gates: Vec<G>,
     source: &mut R,
 ) -> Result<Written, EngineFault>
-    requires { vec_len gates ≡ dialling + completing }
+    requires gates { vec_len gates ≡ dialling + completing }
+    requires for_markers { AreForMarkers G.IsAt gates.items }
     ensures live { IfOk result (λ written. (traffic : List ℕ) ×
         IfSome (R.remaining source.old) (λ all. traffic ≡ all) ×
         IsLive plan.now dialling completing traffic written.text.items written.status) }
+    ensures place { IfOk result (λ written.
+        IsRefusedPlan plan.now → ShowsPlace plan.now written.diagnostic) }
     ensures markers { (result ≡ Err EngineFault.Markers) ↔ ¬ IsLiveMarkerCount dialling completing }
     ensures device { result ≡ Err EngineFault.Device
         → HasFailed (R.failure_count source.old) (R.failure_count source.new) }
@@ -55,8 +61,8 @@ fn do_live<G: Gate + Send + Drop, T: Threads + Wait + Sync, R: Source>(
 
 /// Does the calls of the live traffic from the source, in an office with the plan of this text,
 /// and writes their records and the counts to the sink. `dialling` markers dial and `completing`
-/// markers complete calls, each on a thread of its own and with a gate of its own. The first gates
-/// are for those that dial.
+/// markers complete calls, each on a thread of its own and with a gate of its own. Gate `k` is for
+/// marker `k`, and the first markers are those that dial.
 ///
 /// The numbers of markers are judged first, then the plan, then all rows of the traffic, before
 /// any call is done. If the markers or the plan are refused, the source is left unread. The output
@@ -72,7 +78,8 @@ pub fn answer_live<G: Gate + Send + Drop, T: Threads + Wait + Sync, R: Source, W
     source: &mut R,
     sink: &mut W,
 ) -> Result<Response, EngineFault>
-    requires { vec_len gates ≡ dialling + completing }
+    requires gates { vec_len gates ≡ dialling + completing }
+    requires for_markers { AreForMarkers G.IsAt gates.items }
     ensures live { IfOk result (λ answer. (traffic text : List ℕ) ×
         IfSome (R.remaining source.old) (λ all. traffic ≡ all) ×
         IsLive plan.now dialling completing traffic text answer.status ×
@@ -81,6 +88,8 @@ pub fn answer_live<G: Gate + Send + Drop, T: Threads + Wait + Sync, R: Source, W
         Appends (W.contents sink.old) (W.contents sink.new) text ×
         ReportsFaultOf answer.diagnostic text answer.status) }
     ensures reasons { IfOk result (λ answer. answer.reasons.items ≡ []) }
+    ensures place { IfOk result (λ answer.
+        IsRefusedPlan plan.now → ShowsPlace plan.now answer.diagnostic) }
     ensures markers { (result ≡ Err EngineFault.Markers) ↔ ¬ IsLiveMarkerCount dialling completing }
     ensures device { result ≡ Err EngineFault.Device
         → HasFailed (R.failure_count source.old) (R.failure_count source.new)
@@ -121,7 +130,8 @@ pub fn run_live<G: Gate + Send + Drop, T: Threads + Wait + Sync, R: Source, W: S
     source: &mut R,
     sink: &mut W,
 ) -> Result<Status, EngineFault>
-    requires { vec_len gates ≡ dialling + completing }
+    requires gates { vec_len gates ≡ dialling + completing }
+    requires for_markers { AreForMarkers G.IsAt gates.items }
     ensures live { IfOk result (λ status. (traffic text : List ℕ) ×
         IfSome (R.remaining source.old) (λ all. traffic ≡ all) ×
         IsLive plan.now dialling completing traffic text status ×

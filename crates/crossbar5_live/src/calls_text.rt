@@ -5,6 +5,7 @@ ghost use Rattle.xbar_equip.specs.Word.{word_count};
 ghost use Rattle.xbar_plan.specs.Tables.{Tables};
 ghost use Rattle.xbar_traffic.specs.Row.{IsRow};
 ghost use Rattle.xbar_markers.specs.Calls.{HasCallNo};
+ghost use Rattle.xbar_markers.specs.Gates.{AreForMarkers};
 ghost use Rattle.xbar_markers.specs.Outcomes.{IsOutcome};
 ghost use Rattle.xbar_markers.specs.declared.call.Call.{Call as CallView};
 ghost use Rattle.crossbar5_answer.specs.Faults.{IsLiveMarkerCount};
@@ -83,6 +84,7 @@ pub fn live<G: Gate + Send + Drop, R: Threads + Wait + Sync>(
 ) -> Result<Written, AllocError>
     requires markers { IsLiveMarkerCount dialling completing }
     requires gates { vec_len gates ≡ dialling + completing }
+    requires for_markers { AreForMarkers G.IsAt gates.items }
     ensures { IfOk result (λ written. IsLiveUnder plan.now dialling completing
         bytes.now written.text.items written.status) }
 {

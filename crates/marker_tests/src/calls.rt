@@ -2,6 +2,7 @@
 
 ghost use Rattle.std.specs.Prelude.{◌≡◌, ◌+◌, ◌<◌, All, IfOk, vec_len};
 ghost use Rattle.xbar_markers.specs.Calls.{HasCallNo};
+ghost use Rattle.xbar_markers.specs.Gates.{AreForMarkers};
 
 use crate::fixtures::example;
 use std::alloc::{AllocError, Global};
@@ -49,6 +50,7 @@ fn run<'p, G: Gate + Send + Drop, R: Threads + Wait + Sync + Abort>(
 ) -> Outcome<'p>
     requires call_nos { All HasCallNo calls.now }
     requires gates { vec_len gates ≡ workers.dialling + workers.completing }
+    requires for_markers { AreForMarkers G.IsAt gates.items }
 {
     let (dialling, completing) = (workers.dialling, workers.completing);
     let outcome = run_calls(rt, alloc, plan, calls, dialling, completing, gates);

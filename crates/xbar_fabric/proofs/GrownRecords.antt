@@ -40,7 +40,7 @@ pub record HasGrown (before after : DeskView) : Type 0 where
   pub job : job_at after.work ≡ job_at before.work
 
 -- if nothing has changed there are no more
-still_grown : (before after : DeskView) → after ≡ before → HasGrown before after
+pub still_grown : (before after : DeskView) → after ≡ before → HasGrown before after
 still_grown before after same = record {
   more = [];
   marker = ap (λ (d : DeskView). d.marker) same;
@@ -50,7 +50,7 @@ still_grown before after same = record {
 }
 
 -- those of the one, and then those of the other
-both_grown : (before between after : DeskView) → HasGrown before between → HasGrown between after → HasGrown before after
+pub both_grown : (before between after : DeskView) → HasGrown before between → HasGrown between after → HasGrown before after
 both_grown before between after one other = record {
   more = one.more ++ other.more;
   marker = other.marker ∙ one.marker;
@@ -197,11 +197,11 @@ none_behind : (l more : List Record) → [] ≡ l ++ more → more ≡ []
 none_behind [] more is = sym is
 none_behind (r ∷ l) more is = absurd cc
 
--- to give back adds no record
-pub back_adds_none : (before after : DeskView) → given_by before.work ≡ given.Given → MarkerHasGivenBack before after → (turned_of before ≡ []) × (mine after ≡ mine before)
+-- a desk that has given back has no record of its job, and as many own records as before
+pub back_adds_none : (before after : DeskView) → given_by before.work ≡ given.Given → MarkerHasGivenBack before after → (turned_of before ≡ []) × (turned_of after ≡ []) × (mine after ≡ mine before)
 back_adds_none before after gives back =
     let start : DeskView = record before { work = work_anew before.plan before.work } in
     let grown = steps_grown back.count start after back.made in
     let bare : turned_of after ≡ [] = ap (turned_at after.marker) back.begins ∙ begun_bare after.marker before.work in
     let none = none_behind (turned_of start) grown.more (sym bare ∙ grown.turned_is) in
-    (early_bare before.marker before.work gives, grown.mine_is ∙ ap (λ (l : List Record). mine before ++ l) none ∙ append-nil (mine before))
+    (early_bare before.marker before.work gives, bare, grown.mine_is ∙ ap (λ (l : List Record). mine before ++ l) none ∙ append-nil (mine before))

@@ -13,3 +13,5 @@ pub mod AllDesks
 pub mod OwnRecords
 pub mod GrownRecords
 pub mod LaterTurns
+pub mod Growing
+pub mod Reporting

@@ -15,7 +15,7 @@ use Rattle.xbar_jobs.specs.Office.{ShowsOffice, office}
 use Rattle.xbar_moves.specs.Exchange.{Exchange, Work}
 use Rattle.xbar_moves.specs.declared.kind.Kind.{Kind}
 use Rattle.xbar_moves.proofs.Records.{after_same}
-use Rattle.xbar_fabric.specs.Meetings.{AreWordsAfter, MarkersHaveMet, IsFreeConn, FabricIsShut}
+use Rattle.xbar_fabric.specs.Meetings.{AreWordsAfter, MarkerHasLearned, MarkersHaveMet, IsFreeConn, FabricIsShut}
 use Rattle.xbar_fabric.specs.Views.{entered}
 use Rattle.xbar_fabric.proofs.Offices.{Order, begins_entered, is_history, is_lawful, length-entered, length-made, marker_made, office_of, own_same, turned_entered}
 use Rattle.xbar_fabric.proofs.Steps.{desk_at}
@@ -34,6 +34,15 @@ module _ (plan : Tables) where
     other_begins = begins_entered other other_after met.other_begins;
     one_mine = own_same i one one_after (rw met.same met.one_own);
     other_mine = own_same j other other_after met.other_own;
+  }
+
+  pub has_learned : (t : TableId) (kind : Kind) (k : ℕ) (work work_after : Work) (seen noted seen_after : Order) → desks.HasLearned (office plan) k seen noted seen_after
+      → MarkerHasLearned (desk_at t plan kind k work seen) (map entered noted) (desk_at t plan kind k work_after seen_after)
+  has_learned t kind k work work_after seen noted seen_after learned = record {
+    history = is_history plan seen_after learned.legal;
+    begins = begins_entered seen seen_after learned.begins;
+    note_begins = begins_entered noted seen_after learned.note_begins;
+    mine_are = own_same k seen seen_after learned.own_is;
   }
 
   pub words_after : (order : Order) (words : List ℕ) → length words ≡ 453 → AreWords words → slice_index words (word_number TurnWord) ≡ length order % 2 ^ 64

@@ -98,6 +98,7 @@ module _ (plan : Tables) (table : TableId) (kind : Kind) (k : ℕ) (before after
         stepped = λ goes. absurd cc;
         grown = ([], ap (map entered) same_seen ∙ sym (append-nil (map entered seen)));
         finished = λ r is. absurd cc;
+        ended = λ busy rests. absurd cc;
       }
 
   module _ (answer : Answer) (step : desks.HasStepped (office plan) k before after seen seen_after answer) where
@@ -127,6 +128,10 @@ module _ (plan : Tables) (table : TableId) (kind : Kind) (k : ℕ) (before after
       finished = λ r ends.
           let rests = finished_rests k step.number step.attempt next_attempt r answer (sym is ∙ ends) in
           let busy = busy_now goes in
+          absurd cc;
+      ended = λ busy rests.
+          let free = free_idle plan after in
+          let gone : is_available (office plan) after ≡ false = goes in
           absurd cc;
     }
 
@@ -190,4 +195,5 @@ module _ (plan : Tables) (table : TableId) (kind : Kind) (k : ℕ) (before after
         finished = λ r is.
             let one : entered reported ≡ r = cc in
             (free_idle plan after ∙ ends, subst (IsReportedRecord old new) one tells);
+        ended = λ busy rests. (entered reported, refl);
       }

@@ -28,14 +28,16 @@ pub record MarkerHasStepped (before after : DeskView) (event : Event) : Type 0 w
   pub event_is : event ≡ event_at_step before.plan before.marker office
 
 -- an advance: an idle desk makes no step, any other makes its marker's next step; the desk has
--- seen what it had seen, and more; and a record is reported only by a step after which nothing is
--- left of the job
+-- seen what it had seen, and more; and a record is reported by a step after which nothing is left of
+-- the job, and by no other
 pub record MarkerHasAdvanced (before after : DeskView) (event : Event) : Type 0 where
   pub idle : is_idle before.work ≡ true → (after ≡ before) × (event ≡ Idle)
   pub stepped : is_idle before.work ≡ false → MarkerHasStepped before after event
   pub grown : Begins before.seen after.seen
   pub finished : (r : Record) → event ≡ Finished r →
       (is_idle after.work ≡ true) × IsReportedRecord before after r
+  pub ended : is_idle before.work ≡ false → is_idle after.work ≡ true →
+      (r : Record) × (event ≡ Finished r)
 
 -- the answer to an advance: None if the desk was idle, else that of the marker's step in the
 -- office in which it was made

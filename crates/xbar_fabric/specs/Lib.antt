@@ -5,3 +5,4 @@ pub mod Histories
 pub mod Advances
 pub mod Meetings
 pub mod Between
+pub mod Reports

@@ -24,6 +24,15 @@ pub record MarkersHaveMet (one other one_after other_after : DeskView) : Type 0 
   pub one_mine : mine one_after ≡ mine one
   pub other_mine : mine other_after ≡ mine other
 
+-- a desk has learned a note: it has now seen a history, which begins with what it had seen and with
+-- what the note has, and in which it has the same own records as before
+pub record MarkerHasLearned (before : DeskView) (noted : List Record) (after : DeskView) : Type 0
+  where
+    pub history : IsHistory after.plan after.seen
+    pub begins : Begins before.seen after.seen
+    pub note_begins : Begins noted after.seen
+    pub mine_are : mine after ≡ mine before
+
 -- no marker holds the connector, by its word
 abbrev pub IsFreeConn : List ℕ → Conn → Type 0
 IsFreeConn words conn = slice_index words (word_number (ConnWord conn)) % 64 ≡ 0

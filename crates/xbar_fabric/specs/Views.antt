@@ -30,6 +30,11 @@ pub record DeskView : Type 0 where
   pub work : Work
   pub seen : List Record
 
+-- a note as callers see it: its table, and what its desk had seen when it wrote the note
+pub record NoteView : Type 0 where
+  pub table : TableId
+  pub seen : List Record
+
 -- a desk's marker, as an office has it
 abbrev pub marker_of : DeskView → Marker
 marker_of desk = record { kind = desk.kind; work = desk.work }

@@ -2,7 +2,9 @@
 //! nothing: their contracts are the laws.
 
 ghost use Rattle.std.specs.Prelude.{◌≡◌, ◌≤◌, ◌<◌, ◌^◌, ℕ, List, [], ◌∷◌, ◌++◌, length};
-ghost use Rattle.std.specs.Prelude.{Option, Some};
+ghost use Rattle.std.specs.Prelude.{Option, Some, false, true};
+ghost use Rattle.turns.specs.Attempt.{begin_with};
+ghost use Rattle.turns.specs.World.{Does};
 ghost use Rattle.turns.specs.declared.phase.Phase.{Phase};
 ghost use Rattle.desks.specs.Parts.{Begins};
 ghost use Rattle.xbar_equip.specs.declared.conn.Conn.{Conn};
@@ -12,18 +14,23 @@ ghost use Rattle.xbar_equip.specs.declared.crosspoint.Crosspoint.{Crosspoint};
 ghost use Rattle.xbar_equip.specs.declared.path.Path.{Path};
 ghost use Rattle.xbar_plan.specs.Lawful.{IsLawful};
 ghost use Rattle.xbar_plan.specs.Tables.{Tables};
+ghost use Rattle.xbar_office.specs.declared.job.Job.{Job};
 ghost use Rattle.xbar_office.specs.declared.job.Job.TheVariants.{Release};
 ghost use Rattle.xbar_office.specs.declared.reply.Card.{Card};
 ghost use Rattle.xbar_office.specs.declared.reply.End.TheVariants.{Released};
 ghost use Rattle.xbar_office.specs.declared.reply.Record.{Record};
 ghost use Rattle.xbar_jobs.specs.Attempt.{Attempt};
-ghost use Rattle.xbar_moves.specs.Exchange.{Exchange};
+ghost use Rattle.xbar_jobs.specs.Jobs.{first_conn};
+ghost use Rattle.xbar_moves.specs.Exchange.{Exchange, is_idle};
 ghost use Rattle.xbar_moves.specs.Holding.{AsksFor, HasRequested, Holds, IsAt};
 ghost use Rattle.xbar_moves.specs.Links.{BelongsTo, IsAtLink, IsClosed, OpensItsOwn};
 ghost use Rattle.xbar_moves.specs.Moves.{given_by};
-ghost use Rattle.xbar_fabric.specs.Advances.{MarkerHasAdvanced, MarkerHasGivenBack, MarkerHasStepped};
+ghost use Rattle.xbar_fabric.specs.Advances.{MarkerHasAdvanced, MarkerHasGivenBack, MarkerHasRun};
+ghost use Rattle.xbar_fabric.specs.Advances.{MarkerHasStepped};
 ghost use Rattle.xbar_fabric.specs.Between.{IsOfficeOn, Keeps, Known};
 ghost use Rattle.xbar_fabric.specs.Histories.{IsHistory, job_at, turned_of};
+ghost use Rattle.xbar_fabric.specs.Meetings.{MarkerHasLearned, MarkersHaveMet};
+ghost use Rattle.xbar_fabric.specs.Reports.{MarkerHasWorked, ended, reported_by};
 ghost use Rattle.xbar_fabric.specs.Views.{DeskView, mine};
 
 use turns::Phase;
@@ -74,19 +81,41 @@ pub fn steps_tell_the_truth()
     xbar_moves::laws::events_tell_the_truth();
 }
 
-/// A desk's own records are those of its earlier jobs, and then that of its job, once it has taken
-/// its turn. An advance leaves the desk at its job. To give back, as it may up to its turn, adds
-/// no record.
-pub fn own_records_are_of_own_jobs()
-    ensures advance { (before after : DeskView) (event : Event) (earlier : List Record) →
-        MarkerHasAdvanced before after event → mine before ≡ earlier ++ turned_of before →
-        mine after ≡ earlier ++ turned_of after }
+/// A desk reports each of its own records once, in order. `advance` reports the record of a job that
+/// ends; after a step or a run that ends a job, `record` returns it. Nothing else that a desk does
+/// takes a turn.
+pub fn desks_report_their_records()
+    ensures assigned { (before : DeskView) (number : ℕ) (job : Job) →
+        is_idle before.work ≡ true → MarkerHasWorked before
+        (record before { work = Does number (begin_with (first_conn job) job) }) [] }
+    ensures advanced { (before after : DeskView) (event : Event) →
+        MarkerHasAdvanced before after event → MarkerHasWorked before after (reported_by event) }
+    ensures stepped { (before after : DeskView) (event : Event) → is_idle before.work ≡ false →
+        MarkerHasAdvanced before after event → MarkerHasWorked before after (ended after) }
+    ensures run { (count : ℕ) (before after : DeskView) → is_idle before.work ≡ false →
+        MarkerHasRun count before after → MarkerHasWorked before after (ended after) }
+    ensures given_back { (before after : DeskView) → given_by before.work ≡ Given.Given →
+        MarkerHasGivenBack before after → MarkerHasWorked before after [] }
+    ensures learned { (before after : DeskView) (noted : List Record) →
+        after ≡ record before { seen = after.seen } → MarkerHasLearned before noted after →
+        MarkerHasWorked before after [] }
+    ensures met { (one other one_after other_after : DeskView) →
+        one_after ≡ record one { seen = one_after.seen } →
+        other_after ≡ record other { seen = other_after.seen } →
+        MarkersHaveMet one other one_after other_after →
+        MarkerHasWorked one one_after [] × MarkerHasWorked other other_after [] }
+    ensures both { (a b c : DeskView) (reported more : List Record) →
+        MarkerHasWorked a b reported → MarkerHasWorked b c more →
+        MarkerHasWorked a c (reported ++ more) }
+{}
+
+/// A desk's job stays the one that was assigned to it, whatever steps the desk makes. The record
+/// that the desk reports at the job's end is the job's.
+pub fn reports_are_of_assigned_jobs()
     ensures job { (before after : DeskView) (event : Event) → MarkerHasAdvanced before after event →
         job_at after.work ≡ job_at before.work }
-    ensures finished { (before after : DeskView) (r : Record) →
+    ensures reported { (before after : DeskView) (r : Record) →
         MarkerHasAdvanced before after (Event.Finished r) → turned_of after ≡ r ∷ [] }
-    ensures given { (before after : DeskView) → given_by before.work ≡ Given.Given →
-        MarkerHasGivenBack before after → (turned_of before ≡ []) × (mine after ≡ mine before) }
 {}
 
 /// A desk's next own record has a later turn than all that the desk had seen before.

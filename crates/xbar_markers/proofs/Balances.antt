@@ -7,8 +7,8 @@ use Rattle.xbar_markers.specs.Calls.{records_of}
 use Rattle.xbar_markers.specs.Shares.{IsBalanced, in_tasks, out_of}
 use Rattle.xbar_markers.specs.declared.call.Call.{Call}
 use Rattle.xbar_markers.specs.declared.call_records.CallRecords.{CallRecords}
-use Rattle.xbar_markers.specs.declared.share.Share.{Share}
-use Rattle.xbar_markers.specs.declared.task.Task.{Task}
+use Rattle.xbar_markers.specs.Shares.{Share}
+use Rattle.xbar_markers.specs.Tasks.{Task}
 use Rattle.xbar_markers.specs.declared.task.Task.TheVariants as task
 
 -- a weight of calls with their records, as one of tasks

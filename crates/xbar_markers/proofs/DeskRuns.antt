@@ -17,10 +17,10 @@ use Rattle.xbar_markers.specs.Work.{AreShort}
 use Rattle.xbar_markers.specs.Calls.{HasDialTone, IsServed, records_of}
 use Rattle.xbar_markers.specs.declared.call.Call.{Call}
 use Rattle.xbar_markers.specs.declared.call_records.CallRecords.{CallRecords}
-use Rattle.xbar_markers.specs.declared.queues.Queues.{Queues}
-use Rattle.xbar_markers.specs.declared.thread_state.ThreadState.{ThreadState}
-use Rattle.xbar_markers.specs.declared.share.Share.{Share}
-use Rattle.xbar_markers.specs.declared.task.Task.{Task}
+use Rattle.xbar_markers.specs.Shares.{Queues}
+use Rattle.xbar_markers.specs.ThreadStates.{ThreadState}
+use Rattle.xbar_markers.specs.Shares.{Share}
+use Rattle.xbar_markers.specs.Tasks.{Task}
 use Rattle.xbar_markers.specs.declared.worker.Worker.{Worker}
 use Rattle.xbar_markers.proofs.KindsOfDesks.{are_split}
 

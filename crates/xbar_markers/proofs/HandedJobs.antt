@@ -1,59 +1,62 @@
 -- a desk whose job goes from one worker to another
-use Rattle.std.proofs.Common.{◌≡◌, ℕ, zero, suc, ◌≤◌, ◌<◌, ◌^◌, Some, List, [], ◌∷◌, ◌++◌, append-nil, append_assoc, inl, inr, length, refl, sym, ◌∙◌, ap, subst}
-use Rattle.std.specs.Prelude.{None, Option}
+use Rattle.std.proofs.Common.{◌≡◌, ◌≢◌, ℕ, ◌≤◌, ◌<◌, ◌^◌, Bool, false, true, Some, List, [], ◌∷◌, ◌++◌, append-nil, append_assoc, length, refl, sym, ◌∙◌, ap, subst}
+use Rattle.std.specs.Prelude.{None, Option, if◌then◌else◌, is_some}
 use Rattle.std.proofs.lemmas.Option.{same_Some}
-use Rattle.turns.specs.Attempt.{begin_with}
+use Rattle.turns.specs.Attempt.{act, begin_with, turn_in}
+use Rattle.turns.specs.Runs.{is_finished}
 use Rattle.turns.specs.World.{Idle, Does}
 use Rattle.desks.specs.Parts.{Begins}
 use Rattle.xbar_office.specs.declared.job.Job.{Job}
 use Rattle.xbar_office.specs.declared.reply.Record.{Record}
 use Rattle.xbar_jobs.specs.Jobs.{first_conn}
-use Rattle.xbar_moves.specs.AtWork.{answer_to_step}
-use Rattle.xbar_moves.specs.Exchange.{Exchange, Work}
-use Rattle.xbar_moves.specs.Moves.{added_record, after_step, work_anew}
-use Rattle.xbar_moves.specs.declared.event.Event.{Event}
+use Rattle.xbar_moves.specs.Exchange.{Work, is_idle}
+use Rattle.xbar_moves.specs.Moves.{given_by}
 use Rattle.xbar_moves.specs.declared.event.Event.TheVariants.{Finished}
-use Rattle.xbar_moves.proofs.StepCases.{step_cases}
-use Rattle.xbar_fabric.specs.Advances.{MarkerHasAdvanced, MarkerHasGivenBack, MarkerHasMade, MarkerHasStepped, at_beginning}
+use Rattle.xbar_moves.specs.declared.given.Given.TheVariants as given
+use Rattle.xbar_fabric.specs.Advances.{MarkerHasAdvanced, MarkerHasGivenBack, at_beginning}
 use Rattle.xbar_fabric.specs.Histories.{job_at, turned_of}
+use Rattle.xbar_fabric.specs.Reports.{MarkerHasWorked, unreported}
 use Rattle.xbar_fabric.specs.Views.{DeskView, mine}
-use Rattle.xbar_markers.specs.Handing.{HasGiven, IsAtHand}
+use Rattle.xbar_markers.specs.Handing.{HasGiven, IsTakenOver}
 use Rattle.xbar_markers.specs.Work as work
-use Rattle.xbar_markers.specs.Work.{IsDoing}
+use Rattle.xbar_markers.specs.Work.{HasDone, HasMadeSteps, IsDoing, IsDoneOr, reported_record}
+use Rattle.xbar_markers.specs.declared.handing.Handed.TheVariants as handed
+use Rattle.xbar_markers.specs.declared.handing.Then.{Then}
+use Rattle.xbar_markers.specs.declared.handing.Then.TheVariants.{GiveBack}
 use Rattle.xbar_markers.proofs.JobsInHand.{has_done, mine_at_end}
 use Rattle.xbar_markers.proofs.ToldRecords.{told_end}
 
--- what begins by these begins by fewer
-begins_both : (one two three : List Record) → Begins one two → Begins two three → Begins one three
-begins_both one two three (more, is) (later, then) = (more ++ later, then ∙ ap (λ (l : List Record). l ++ later) is ∙ append_assoc one more later)
+-- a step that reported no record left its job under way
+pub busy_on : (desk after : DeskView) (reported : Option Record) → is_idle desk.work ≡ false → work.WorkerHasStepped desk after reported → reported ≡ None → is_idle after.work ≡ false
+busy_on desk after reported busy step none = by (is_idle after.work) refl where
+  by : (idle : Bool) → is_idle after.work ≡ idle → is_idle after.work ≡ false
+  by false goes = goes
+  by true idle =
+      let told = step.advanced.ended busy idle in
+      let no : None ≡ Some told.0 = sym none ∙ step.told_is ∙ ap reported_record told.1 in
+      absurd cc
 
--- an office's records grow by a step
-records_grow : (before after : DeskView) (event : Event) (step : MarkerHasStepped before after event) → Begins step.office.records (after_step before.plan before.marker step.office).records
-records_grow before after event step = elim (step_cases before.plan step.office before.marker) [
-  | inl same ↦ ([], ap (λ (x : Exchange). x.records) same ∙ sym (append-nil step.office.records))
-  | inr made ↦ (added_record before.marker made.number made.attempt (answer_to_step before.marker step.office.words made.attempt), ap (λ (x : Exchange). x.records) made.is)
-]
+-- a desk that gives back is at work
+goes_given : (rests turned : Bool) → (if rests then given.Idle else (if turned then given.PastTurn else given.Given)) ≡ given.Given → rests ≡ false
+goes_given true turned is = absurd cc
+goes_given false turned is = refl
 
--- and so does what a desk has seen
-step_begins : (before after : DeskView) (event : Event) → MarkerHasStepped before after event → Begins before.seen after.seen
-step_begins before after event step =
-    let all = begins_both before.seen step.office.records (after_step before.plan before.marker step.office).records step.agrees.begins (records_grow before after event step) in
-    (all.0, step.seen_is ∙ all.1)
+busy_given : (at : Work) → given_by at ≡ given.Given → is_idle at ≡ false
+busy_given Idle gives = absurd cc
+busy_given (Does number a) gives = goes_given (is_finished (act a)) (is_some (turn_in a.phase)) gives
 
--- by many steps too
-steps_begin : (count : ℕ) (before after : DeskView) → MarkerHasMade count before after → Begins before.seen after.seen
-steps_begin zero before after same = ([], ap (λ (d : DeskView). d.seen) same ∙ sym (append-nil before.seen))
-steps_begin (suc count) before after (between, event, made, asks, step) =
-    begins_both before.seen between.seen after.seen (steps_begin count before between made) (step_begins between after event step)
+none_reported : (idle : Bool) (none : List Record) → none ≡ [] → (if idle then [] else none) ≡ []
+none_reported true none is = refl
+none_reported false none is = is
 
 module _ (number : ℕ) (job : Job) (start : DeskView) where
   -- the desk is at the job still, or has done it if the step reported a record
-  pub at_hand : (desk after : DeskView) (reported : Option Record) → IsDoing number job start desk → IsDoing number job start after → work.WorkerHasStepped desk after reported
+  pub done_or : (desk after : DeskView) (reported : Option Record) → IsDoing number job start after → work.WorkerHasStepped desk after reported
       → ((r : Record) → MarkerHasAdvanced desk after (Finished r) → turned_of after ≡ r ∷ [])
       → ((r : Record) → mine after ≡ mine start ++ r ∷ [] → length after.seen < 2 ^ 64 → (length start.seen ≤ r.turn) × (r.turn < length after.seen))
-      → IsAtHand start number job after reported
-  at_hand desk after None doing now step ends later = now
-  at_hand desk after (Some r) doing now step ends later =
+      → IsDoneOr number job start after reported
+  done_or desk after None now step ends later = now
+  done_or desk after (Some r) now step ends later =
       let advanced = subst (MarkerHasAdvanced desk after) (told_end step.event r step.told_is) step.advanced in
       let ended = ends r advanced in
       let reported = advanced.finished r refl in
@@ -64,13 +67,33 @@ module _ (number : ℕ) (job : Job) (start : DeskView) where
   begins_its_job Idle is = absurd cc
   begins_its_job (Does n a) is = ap (λ (p : ℕ × Job). Does p.0 (begin_with (first_conn p.1) p.1)) (same_Some (n, a.job) (number, job) is)
 
-  -- a desk at the job that gives back
-  pub has_given : (desk after : DeskView) → IsDoing number job start desk → after ≡ record desk { work = after.work; seen = after.seen } → MarkerHasGivenBack desk after
-      → (turned_of desk ≡ []) × (mine after ≡ mine desk) → HasGiven start after number job
-  has_given desk after doing same back (bare, mine_is) = record {
-    same = same
-        ∙ ap (λ (d : DeskView). record d { work = after.work; seen = after.seen }) doing.same
-        ∙ ap (λ (w : Work). record start { work = w; seen = after.seen }) (back.begins ∙ begins_its_job desk.work doing.at);
-    seen = begins_both start.seen desk.seen after.seen doing.seen (steps_begin back.count (record desk { work = work_anew desk.plan desk.work }) after back.made);
-    mine_are = mine_is ∙ doing.mine_are ∙ ap (λ (l : List Record). mine start ++ l) bare ∙ append-nil (mine start);
-  }
+  -- a desk at the job that gives back, which is no turn
+  pub has_given : (desk after : DeskView) → IsDoing number job start desk → after ≡ record desk { work = after.work; seen = after.seen } → given_by desk.work ≡ given.Given → MarkerHasGivenBack desk after
+      → MarkerHasWorked desk after [] → HasGiven start after number job
+  has_given desk after doing same gives back worked =
+      let begins : after.work ≡ Does number (begin_with (first_conn job) job) = back.begins ∙ begins_its_job desk.work doing.at in
+      let left : mine desk ≡ mine start ++ unreported desk =
+      doing.mine_are ∙ ap (λ (idle : Bool). mine start ++ (if idle then [] else turned_of desk)) (sym (busy_given desk.work gives)) in
+      let none : unreported after ≡ [] =
+      ap (λ (at : Work). unreported (record after { work = at })) begins
+      ∙ none_reported (is_idle (Does number (begin_with (first_conn job) job))) [] refl in
+      record {
+        same = same
+            ∙ ap (λ (d : DeskView). record d { work = after.work; seen = after.seen }) doing.same
+            ∙ ap (λ (w : Work). record start { work = w; seen = after.seen }) begins;
+        seen = (
+          doing.seen.0 ++ worked.begins.0,
+          worked.begins.1 ∙ ap (λ (l : List Record). l ++ worked.begins.0) doing.seen.1 ∙ append_assoc start.seen doing.seen.0 worked.begins.0,
+        );
+        mine_are = worked.mine_are (mine start) left ∙ ap (λ (l : List Record). mine start ++ l) none ∙ append-nil (mine start);
+      }
+
+-- a job that was left, and brought to its end
+pub taken_over : (before : DeskView) (number : ℕ) (job : Job) (asked : Then) (left desk after : DeskView) (r : Record) → desk ≡ left → (asked ≡ GiveBack → given_by left.work ≢ given.Given) → IsDoing number job before left
+    → ((start : DeskView) (n : ℕ) (j : Job) → IsDoing n j start desk → HasDone start after n j r) → (count : ℕ) × HasMadeSteps count desk after → IsTakenOver before number job asked left after (handed.Finished r)
+taken_over before number job asked left desk after r same not doing done made = (
+  not,
+  done before number job (subst (IsDoing number job before) (sym same) doing),
+  made.0,
+  subst (λ (d : DeskView). HasMadeSteps made.0 d after) same made.1,
+)

@@ -1,10 +1,11 @@
 -- a desk that does one job
-use Rattle.std.proofs.Common.{◌≡◌, ℕ, zero, suc, ◌≤◌, ◌<◌, ◌^◌, true, List, [], ◌∷◌, ◌++◌, append-nil, append_assoc, length, refl, sym, ◌∙◌, ap, subst}
-use Rattle.std.specs.Prelude.{None, Option, Some, option_map, option_to_list, unwrap_or}
+use Rattle.std.proofs.Common.{◌≡◌, ℕ, zero, suc, ◌+◌, ◌≤◌, ◌<◌, ◌^◌, Bool, false, true, arith, List, [], ◌∷◌, ◌++◌, append-nil, append_assoc, length, refl, sym, ◌∙◌, ap, subst}
+use Rattle.std.specs.Prelude.{None, Option, Some, if◌then◌else◌, option_map, option_to_list, unwrap_or}
 use Rattle.std.proofs.lemmas.Option.{same_Some}
 use Rattle.turns.specs.Attempt.{begin_with, turn_in}
 use Rattle.turns.specs.World.{Idle, Does}
 use Rattle.desks.specs.Parts.{Begins}
+use Rattle.desks.specs.Watching.{watched_more}
 use Rattle.xbar_office.specs.declared.job.Job.{Job}
 use Rattle.xbar_office.specs.declared.reply.Record.{Record}
 use Rattle.xbar_office.specs.declared.reply.Reply.{Reply}
@@ -12,10 +13,69 @@ use Rattle.xbar_jobs.specs.Jobs.{first_conn}
 use Rattle.xbar_moves.specs.Exchange.{Work, is_idle, on_job}
 use Rattle.xbar_moves.specs.Moves.{own_record}
 use Rattle.xbar_moves.specs.declared.event.Event.{Event}
+use Rattle.xbar_moves.specs.declared.event.Event.TheVariants.{Finished}
 use Rattle.xbar_fabric.specs.Advances.{MarkerHasAdvanced, MarkerHasRun}
 use Rattle.xbar_fabric.specs.Histories.{job_at, turned_of}
+use Rattle.xbar_fabric.specs.Reports.{MarkerHasWorked, ended, unreported}
 use Rattle.xbar_fabric.specs.Views.{DeskView, FabricView, IsDeskOf, mine}
-use Rattle.xbar_markers.specs.Work.{HasDone, IsDoing}
+use Rattle.xbar_markers.specs.Work.{HasDone, HasMadeSteps, IsDoing}
+
+-- what the laws of reports say of an advance
+abbrev pub Reports : Type 0
+Reports =
+    (before after : DeskView) (event : Event) → is_idle before.work ≡ false
+    → MarkerHasAdvanced before after event → MarkerHasWorked before after (ended after)
+
+abbrev pub KeepsJob : Type 0
+KeepsJob =
+    (before after : DeskView) (event : Event) → MarkerHasAdvanced before after event
+    → job_at after.work ≡ job_at before.work
+
+abbrev pub ReportsJob : Type 0
+ReportsJob =
+    (before after : DeskView) (r : Record) → MarkerHasAdvanced before after (Finished r)
+    → turned_of after ≡ r ∷ []
+
+-- a record is reported, or is still to be reported
+one_of_both : (idle : Bool) (l : List Record) → (if idle then l else []) ++ (if idle then [] else l) ≡ l
+one_of_both true l = append-nil l
+one_of_both false l = refl
+
+-- the steps of a run are steps
+pub run_made : (count : ℕ) (before after : DeskView) → MarkerHasRun count before after → HasMadeSteps count before after
+run_made zero before after same = same
+run_made (suc count) before after (between, event, run, busy, asks, advanced) = (between, event, run_made count before between run, busy, advanced)
+
+-- steps, and then further ones
+pub steps_both : (count more : ℕ) (a b c : DeskView) → HasMadeSteps count a b → HasMadeSteps more b c → HasMadeSteps (count + more) a c
+steps_both count zero a b c first second =
+    let same : count ≡ count + zero = omega arith in
+    subst (λ (n : ℕ). HasMadeSteps n a c) same (subst (HasMadeSteps count a) (sym second) first)
+steps_both count (suc more) a b c first (between, event, made, busy, advanced) =
+    let all : HasMadeSteps (suc (count + more)) a c = (between, event, steps_both count more a b between first made, busy, advanced) in
+    let same : suc (count + more) ≡ count + suc more = omega arith in
+    subst (λ (n : ℕ). HasMadeSteps n a c) same all
+
+pub one_step : (before after : DeskView) (event : Event) → is_idle before.work ≡ false → MarkerHasAdvanced before after event → HasMadeSteps (suc zero) before after
+one_step before after event busy advanced = (before, event, refl, busy, advanced)
+
+-- a watch counts them one after another
+pub watched_both : (count more : ℕ) (watched : Option ℕ) → watched_more more (watched_more count watched) ≡ watched_more (count + more) watched
+watched_both count more None = refl
+watched_both count more (Some n) =
+    let same : n + count + more ≡ n + (count + more) = omega arith in
+    ap Some same
+
+-- if nothing is left of a job after its step and further ones, its record is there
+pub ended_after : ReportsJob → (before between after : DeskView) (event : Event) → is_idle before.work ≡ false → MarkerHasAdvanced before between event → (count : ℕ) → HasMadeSteps count between after
+    → is_idle after.work ≡ true → (r : Record) × (turned_of after ≡ r ∷ [])
+ended_after reports before between after event busy advanced zero same idle =
+    let told = advanced.ended busy (subst (λ (d : DeskView). is_idle d.work ≡ true) same idle) in
+    let turned = reports before between told.0 (subst (MarkerHasAdvanced before between) told.1 advanced) in
+    (told.0, subst (λ (d : DeskView). turned_of d ≡ told.0 ∷ []) (sym same) turned)
+ended_after reports before between after event busy advanced (suc count) (last, its_event, made, its_busy, its_advanced) idle =
+    let told = its_advanced.ended its_busy idle in
+    (told.0, reports last after told.0 (subst (MarkerHasAdvanced last after) told.1 its_advanced))
 
 -- a record, by what it is of
 pub record IsOf (k : ℕ) (r : Record) (work : Work) : Type 0 where
@@ -72,14 +132,24 @@ module _ (number : ℕ) (job : Job) (start : DeskView) where
     at = stays ∙ doing.at;
   }
 
-  -- and after as many as are made at once, if no advance adds records but the job's, or leaves it
-  pub runs_on : ((before after : DeskView) (event : Event) (earlier : List Record) → MarkerHasAdvanced before after event → mine before ≡ earlier ++ turned_of before → mine after ≡ earlier ++ turned_of after)
-      → ((before after : DeskView) (event : Event) → MarkerHasAdvanced before after event → job_at after.work ≡ job_at before.work)
-      → (count : ℕ) (desk after : DeskView) → IsDoing number job start desk → MarkerHasRun count desk after → IsDoing number job start after
-  runs_on own same zero desk after doing run = subst (IsDoing number job start) (sym run) doing
-  runs_on own same (suc count) desk after doing (between, event, run, busy, asks, advanced) =
-      let now = runs_on own same count desk between doing run in
-      goes_on between after now (advanced.stepped busy).same advanced.grown (own between after event (mine start) advanced now.mine_are) (same between after event advanced)
+  -- by an advance
+  pub advanced_on : Reports → KeepsJob → (desk after : DeskView) (event : Event) → IsDoing number job start desk → MarkerHasAdvanced desk after event → IsDoing number job start after
+  advanced_on reports keeps desk after event doing advanced = by (is_idle desk.work) refl where
+    by : (idle : Bool) → is_idle desk.work ≡ idle → IsDoing number job start after
+    by true idle = subst (IsDoing number job start) (sym (advanced.idle idle).0) doing
+    by false busy =
+        let left : mine desk ≡ mine start ++ unreported desk =
+        doing.mine_are ∙ ap (λ (idle : Bool). mine start ++ (if idle then [] else turned_of desk)) (sym busy) in
+        goes_on desk after doing (advanced.stepped busy).same advanced.grown
+        ((reports desk after event busy advanced).mine_are (mine start) left
+        ∙ ap (λ (l : List Record). mine start ++ l) (one_of_both (is_idle after.work) (turned_of after)))
+        (keeps desk after event advanced)
+
+  -- and by as many as are made at once
+  pub runs_on : Reports → KeepsJob → (count : ℕ) (desk after : DeskView) → IsDoing number job start desk → HasMadeSteps count desk after → IsDoing number job start after
+  runs_on reports keeps zero desk after doing same = subst (IsDoing number job start) (sym same) doing
+  runs_on reports keeps (suc count) desk after doing (between, event, made, busy, advanced) =
+      advanced_on reports keeps between after event (runs_on reports keeps count desk between doing made) advanced
 
   -- at the end its own records are more by the job's
   pub mine_at_end : (after : DeskView) (r : Record) → IsDoing number job start after → turned_of after ≡ r ∷ [] → mine after ≡ mine start ++ r ∷ []

@@ -1,6 +1,6 @@
 -- Shares that are joined, and the first share of a desk.
 use Rattle.std.proofs.Common.{◌≡◌, ℕ, ◌+◌, ◌<◌, ◌^◌, List, [], ◌∷◌, ◌++◌, All, length, map, flat_map, sum_by, refl, sym, ap, ◌∙◌, arith}
-use Rattle.std.specs.Prelude.{Option, Some, None, IsSomeAnd, MatchOption, true}
+use Rattle.std.specs.Prelude.{true}
 use Rattle.std.proofs.lemmas.List.{append-nil, map-append}
 use Rattle.std.proofs.lemmas.List.Elements.{All-append, All-cons, All-head, All-nil, All-same, All-tail, All-weaker}
 use Rattle.std.proofs.lemmas.List.Sums.{sum_by-append}
@@ -10,15 +10,15 @@ use Rattle.fair_queue.specs.Tickets.{QueueName, new_ticket, ticket_of_both}
 use Rattle.xbar_moves.specs.Exchange.{is_idle}
 use Rattle.xbar_moves.specs.Kinds.{takes}
 use Rattle.xbar_fabric.specs.Views.{DeskView}
-use Rattle.xbar_office.specs.declared.job.Job.TheVariants.{Release}
 use Rattle.xbar_office.specs.declared.reply.Record.{Record}
-use Rattle.xbar_markers.specs.Calls.{Follows, HasDialTone, IsRecordOf, IsServed, IsToRelease, records_of}
+use Rattle.xbar_markers.specs.Calls.{HasDialTone, IsServed, records_of}
 use Rattle.xbar_markers.specs.Shares.{IsBalanced, IsShareOf, in_task, in_tasks, out_of}
 use Rattle.xbar_markers.specs.Work.{AreShort, HaveWorked}
 use Rattle.xbar_markers.specs.declared.call.Call.{Call}
 use Rattle.xbar_markers.specs.declared.call_records.CallRecords.{CallRecords}
-use Rattle.xbar_markers.specs.declared.share.Share.{Share}
-use Rattle.xbar_markers.specs.declared.task.Task.{Task}
+use Rattle.xbar_markers.specs.Shares.{Share}
+use Rattle.xbar_markers.specs.Tasks.{Task}
+use Rattle.xbar_markers.proofs.Serving.{weaker_served}
 
 -- the same work, with its records in another order
 same_work : (befores desks : List DeskView) (records more : List Record) → SameItems records more
@@ -149,36 +149,6 @@ both_balanced done more one other whole joined first second =
           );
     }
 
--- what is served stays so under a stronger condition on turn numbers
-module _ {less more : Type 0} (weaken : more → less) where
-  follows_still : (r before : Record) → Follows less r before → Follows more r before
-  follows_still r before follows =
-      record { marker = follows.marker; turn = λ short. follows.turn (weaken short) }
-
-  some_follows : (complete : Option Record) (r : Record) → IsSomeAnd complete (Follows less r)
-      → IsSomeAnd complete (Follows more r)
-  some_follows None r follows = follows
-  some_follows (Some before) r follows = follows_still r before follows
-
-  released_still : (c : CallRecords) (release : Option Record)
-      → MatchOption release (¬ IsToRelease c)
-      (λ r. IsToRelease c × IsRecordOf c.call 2 (Release c.call.line) r
-      × IsSomeAnd c.complete (Follows less r))
-      → MatchOption release (¬ IsToRelease c)
-      (λ r. IsToRelease c × IsRecordOf c.call 2 (Release c.call.line) r
-      × IsSomeAnd c.complete (Follows more r))
-  released_still c None released = released
-  released_still c (Some r) released =
-      (released.0, released.1, some_follows c.complete r released.2)
-
-  served_still : (c : CallRecords) → IsServed less c → IsServed more c
-  served_still c served =
-      record {
-        dialled = served.dialled;
-        completed = served.completed;
-        released = released_still c c.release served.released;
-      }
-
 -- what is so of each of two lists' elements is so of each one's
 module _ {X : Type 0} (P : X → Type 0) where
   all_left : (xs ys : List X) → All P (xs ++ ys) → All P xs
@@ -200,10 +170,10 @@ joined_share befores desks more_befores more_desks one other whole joined mine t
     let short = λ (desk : DeskView). length desk.seen < 2 ^ 64 in
     let mine_ended =
     All-weaker (IsServed (AreShort desks)) (IsServed (AreShort (desks ++ more_desks)))
-    (λ c. served_still (all_left short desks more_desks) c) one.ended.items mine.ended in
+    (λ c. weaker_served (all_left short desks more_desks)) one.ended.items mine.ended in
     let their_ended =
     All-weaker (IsServed (AreShort more_desks)) (IsServed (AreShort (desks ++ more_desks)))
-    (λ c. served_still (all_right short desks more_desks) c) other.ended.items theirs.ended in
+    (λ c. weaker_served (all_right short desks more_desks)) other.ended.items theirs.ended in
     record {
       done = mine.done ++ theirs.done;
       worked =

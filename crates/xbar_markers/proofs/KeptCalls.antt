@@ -10,8 +10,8 @@ use Rattle.xbar_markers.specs.Shares.{HasCompleted, HasServed}
 use Rattle.xbar_markers.specs.Work.{AreShort}
 use Rattle.xbar_markers.specs.declared.call.Call.{Call}
 use Rattle.xbar_markers.specs.declared.call_records.CallRecords.{CallRecords}
-use Rattle.xbar_markers.specs.declared.share.Share.{Share}
-use Rattle.xbar_markers.specs.declared.task.Task.{Task}
+use Rattle.xbar_markers.specs.Shares.{Share}
+use Rattle.xbar_markers.specs.Tasks.{Task}
 use Rattle.xbar_markers.proofs.Balances.{HasMoved, IsMade, balanced_on, left, on_call, on_records, on_task}
 use Rattle.xbar_markers.proofs.ServedSteps.{HasEnded, completed_records, ended_out}
 use Rattle.xbar_markers.proofs.Serving.{has_served}

@@ -1,6 +1,8 @@
 pub mod Balances
 pub mod CompletedCalls
 pub mod DeskRuns
+pub mod Gates
+pub mod Passing
 pub mod HandedJobs
 pub mod HeldTickets
 pub mod JobsInHand

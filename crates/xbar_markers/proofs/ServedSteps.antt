@@ -7,13 +7,13 @@ use Rattle.xbar_office.specs.declared.job.Job.TheVariants.{Complete, Release}
 use Rattle.xbar_office.specs.declared.reply.Record.{Record}
 use Rattle.xbar_moves.specs.Exchange.{is_idle}
 use Rattle.xbar_fabric.specs.Views.{DeskView}
-use Rattle.xbar_markers.specs.Calls.{Follows, HasDialTone, IsDialled, IsRecordOf, IsServed, IsToRelease, is_connected, is_dial_tone}
+use Rattle.xbar_markers.specs.Calls.{Follows, HasDialTone, IsDialled, IsLater, IsRecordOf, IsServed, IsToRelease, is_connected, is_dial_tone}
 use Rattle.xbar_markers.specs.Shares.{HasCompleted, HasPassedOn, HasServed}
 use Rattle.xbar_markers.specs.Work.{AreShort, WorkerHasWorked}
 use Rattle.xbar_markers.specs.declared.call.Call.{Call}
 use Rattle.xbar_markers.specs.declared.call_records.CallRecords.{CallRecords}
-use Rattle.xbar_markers.specs.declared.share.Share.{Share}
-use Rattle.xbar_markers.specs.declared.task.Task.{Task}
+use Rattle.xbar_markers.specs.Shares.{Share}
+use Rattle.xbar_markers.specs.Tasks.{Task}
 use Rattle.xbar_markers.specs.declared.task.Task.TheVariants as task
 use Rattle.xbar_markers.proofs.Balances.{HasMoved, IsMade, balanced_on, left, on_call, on_records, on_task}
 use Rattle.xbar_markers.proofs.Serving.{has_served}
@@ -105,7 +105,7 @@ undialled_served {short} {c} d no_tone = record {
   completed = subst (λ (o : Option Record). MatchOption o
       (is_dial_tone c.dial.reply.end ≡ false)
       (λ r. (is_dial_tone c.dial.reply.end ≡ true)
-      × IsRecordOf c.call 1 (Complete c.call.line c.call.digits) r)) (sym d.no_complete) no_tone;
+      × IsRecordOf c.call 1 (Complete c.call.line c.call.digits) r × IsLater short c.dial r)) (sym d.no_complete) no_tone;
   released = subst (λ (o : Option Record). MatchOption o (¬ IsToRelease c)
       (λ r. IsToRelease c × IsRecordOf c.call 2 (Release c.call.line) r
       × IsSomeAnd c.complete (Follows short r))) (sym d.no_release)

@@ -1,14 +1,14 @@
 -- How a share goes over each step of a worker, and over steps one after another.
-use Rattle.std.proofs.Common.{◌≡◌, ℕ, zero, suc, List, [], ◌∷◌, ◌++◌, All, Option, Some, None, IsSomeAnd, MatchOption, slice_get, slice_set, sym, refl, ap, subst}
+use Rattle.std.proofs.Common.{◌≡◌, ℕ, zero, suc, false, true, List, [], ◌∷◌, ◌++◌, All, Option, Some, None, IsSomeAnd, MatchOption, slice_get, slice_set, sym, refl, ap, subst}
 use Rattle.std.proofs.lemmas.List.Elements.{All-append, All-weaker}
-use Rattle.xbar_office.specs.declared.job.Job.TheVariants.{Release}
+use Rattle.xbar_office.specs.declared.job.Job.TheVariants.{Complete, Release}
 use Rattle.xbar_office.specs.declared.reply.Record.{Record}
 use Rattle.xbar_fabric.specs.Views.{DeskView}
-use Rattle.xbar_markers.specs.Calls.{Follows, HasDialTone, IsRecordOf, IsServed, IsToRelease}
+use Rattle.xbar_markers.specs.Calls.{Follows, HasDialTone, IsLater, IsRecordOf, IsServed, IsToRelease, is_dial_tone}
 use Rattle.xbar_markers.specs.Shares.{HasServed, IsBalanced, IsShareOf}
 use Rattle.xbar_markers.specs.Work.{AreShort, WorkerHasWorked}
 use Rattle.xbar_markers.specs.declared.call_records.CallRecords.{CallRecords}
-use Rattle.xbar_markers.specs.declared.share.Share.{Share}
+use Rattle.xbar_markers.specs.Shares.{Share}
 use Rattle.xbar_markers.proofs.Works.{set_worked, short_after, short_before}
 
 -- a call that is served is also served under a stronger condition on turn numbers
@@ -16,15 +16,25 @@ pub weaker_served : {short' short : Type 0} {c : CallRecords} → (short' → sh
     → IsServed short c → IsServed short' c
 weaker_served {short'} {short} {c} weaker served = record {
   dialled = served.dialled;
-  completed = served.completed;
+  completed = completed_by c.complete served.completed;
   released = released_by c.release served.released;
 }
   where
+    completed_by : (o : Option Record)
+        → MatchOption o (is_dial_tone c.dial.reply.end ≡ false)
+        (λ r. (is_dial_tone c.dial.reply.end ≡ true)
+        × IsRecordOf c.call 1 (Complete c.call.line c.call.digits) r × IsLater short c.dial r)
+        → MatchOption o (is_dial_tone c.dial.reply.end ≡ false)
+        (λ r. (is_dial_tone c.dial.reply.end ≡ true)
+        × IsRecordOf c.call 1 (Complete c.call.line c.call.digits) r × IsLater short' c.dial r)
+    completed_by None it = it
+    completed_by (Some r) it = (it.0, it.1, λ short. it.2 (weaker short))
+
     follows : (r : Record) (o : Option Record) → IsSomeAnd o (Follows short r)
         → IsSomeAnd o (Follows short' r)
     follows r None it = it
     follows r (Some before) it =
-        record { marker = it.marker; turn = λ short. it.turn (weaker short) }
+        record { marker = it.marker; later = λ short. it.later (weaker short) }
 
     released_by : (o : Option Record)
         → MatchOption o (¬ IsToRelease c)

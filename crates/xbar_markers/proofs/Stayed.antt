@@ -8,9 +8,9 @@ use Rattle.xbar_fabric.specs.Views.{DeskView, FabricView}
 use Rattle.xbar_markers.specs.ThreadStates.{HasWorkedOn, HaveWorkedOn, IsThreadState, KeepShares, KeepsShare, desk_at}
 use Rattle.xbar_markers.specs.Shares.{HasServed, HasTickets, MayUse}
 use Rattle.xbar_markers.specs.Work.{IsReady}
-use Rattle.xbar_markers.specs.declared.queues.Queues.{Queues}
-use Rattle.xbar_markers.specs.declared.thread_state.ThreadState.{ThreadState}
-use Rattle.xbar_markers.specs.declared.share.Share.{Share}
+use Rattle.xbar_markers.specs.Shares.{Queues}
+use Rattle.xbar_markers.specs.ThreadStates.{ThreadState}
+use Rattle.xbar_markers.specs.Shares.{Share}
 
 -- with the tickets of before a share may still use the queues
 still_may : (queues : Queues) (share after : Share) → HasTickets share after → MayUse share queues

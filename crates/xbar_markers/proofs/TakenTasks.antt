@@ -2,9 +2,10 @@
 use Rattle.std.proofs.Common.{◌≡◌, ◌∙◌, Option, Some, None, IfNone, IfSome, sym, ap, subst}
 use Rattle.fair_queue.specs.Tickets.{TicketView, with_taken}
 use Rattle.xbar_fabric.specs.Views.{DeskView}
+use Rattle.xbar_markers.specs.Calls.{HasDialTone}
 use Rattle.xbar_markers.specs.Shares.{HasServed}
-use Rattle.xbar_markers.specs.declared.share.Share.{Share}
-use Rattle.xbar_markers.specs.declared.task.Task.{Task}
+use Rattle.xbar_markers.specs.Shares.{Share}
+use Rattle.xbar_markers.specs.Tasks.{Task}
 use Rattle.xbar_markers.specs.Tasks.{IsSound}
 use Rattle.xbar_markers.proofs.Serving.{served_none}
 use Rattle.xbar_markers.proofs.ServedSteps.{HasTakenTask}
@@ -33,6 +34,7 @@ one_taken share after ticket result it is some taken = record {
   ended = ap (λ (s : Share). s.ended.items) is;
 }
 
-pub one_sound : (result : Option Task) (it : Task) → result ≡ Some it → IfSome result IsSound
-    → IsSound it
-one_sound result it some sound = subst (λ (o : Option Task). IfSome o IsSound) some sound
+pub one_sound : (result : Option Task) (it : Task) → result ≡ Some it
+    → IfSome result (IsSound HasDialTone) → IsSound HasDialTone it
+one_sound result it some sound =
+    subst (λ (o : Option Task). IfSome o (IsSound HasDialTone)) some sound

@@ -6,9 +6,9 @@ use Rattle.xbar_fabric.specs.Views.{DeskView, FabricView}
 use Rattle.xbar_markers.specs.ThreadStates.{AreStatesOf, IsThreadState, desk_at}
 use Rattle.xbar_markers.specs.Shares.{IsShareOf, MayUse}
 use Rattle.xbar_markers.specs.Work.{IsReady}
-use Rattle.xbar_markers.specs.declared.queues.Queues.{Queues}
-use Rattle.xbar_markers.specs.declared.thread_state.ThreadState.{ThreadState}
-use Rattle.xbar_markers.specs.declared.share.Share.{Share}
+use Rattle.xbar_markers.specs.Shares.{Queues}
+use Rattle.xbar_markers.specs.ThreadStates.{ThreadState}
+use Rattle.xbar_markers.specs.Shares.{Share}
 use Rattle.xbar_markers.proofs.Joined.{IsJoined, joined_share}
 
 module _ {G : Type 0} where

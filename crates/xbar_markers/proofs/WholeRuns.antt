@@ -12,7 +12,7 @@ use Rattle.xbar_markers.specs.Shares.{IsShareOf, in_task, in_tasks, out_of}
 use Rattle.xbar_markers.specs.Work.{AreShort, HaveWorked}
 use Rattle.xbar_markers.specs.declared.call.Call.{Call}
 use Rattle.xbar_markers.specs.declared.call_records.CallRecords.{CallRecords}
-use Rattle.xbar_markers.specs.declared.share.Share.{Share}
+use Rattle.xbar_markers.specs.Shares.{Share}
 
 abbrev call_of : CallRecords → Call
 call_of c = c.call

@@ -44,19 +44,25 @@ abbrev pub IsToRelease : CallRecords → Type 0
 IsToRelease c =
     (c.call.release ≡ true) × IsSomeAnd c.complete (λ r. is_connected r.reply.end ≡ true)
 
--- the record is by the same marker as the one before and, if no turn number comes twice, later
+-- the record comes after the one before in the history: its turn is later, if no turn number comes
+-- twice
+abbrev pub IsLater : (short : Type 0) → Record → Record → Type 0
+IsLater short before r = short → before.turn < r.turn
+
+-- the record is by the same marker as the one before, and comes after it
 pub record Follows (short : Type 0) (r before : Record) : Type 0 where
   pub marker : r.marker ≡ before.marker
-  pub turn : short → before.turn < r.turn
+  pub later : IsLater short before r
 
--- all is done for the call: it was dialled; completed exactly if its line got dial tone; and
--- released exactly if that was asked for and it was connected, by the same marker and later
+-- all is done for the call: it was dialled; completed, after that, exactly if its line got dial
+-- tone; and released, after that and by the same marker, exactly if that was asked for and it was
+-- connected
 pub record IsServed (short : Type 0) (c : CallRecords) : Type 0 where
   pub dialled : IsRecordOf c.call 0 (Dial c.call.line) c.dial
   pub completed : MatchOption c.complete
       (is_dial_tone c.dial.reply.end ≡ false)
       (λ r. (is_dial_tone c.dial.reply.end ≡ true)
-      × IsRecordOf c.call 1 (Complete c.call.line c.call.digits) r)
+      × IsRecordOf c.call 1 (Complete c.call.line c.call.digits) r × IsLater short c.dial r)
   pub released : MatchOption c.release
       (¬ IsToRelease c)
       (λ r. IsToRelease c × IsRecordOf c.call 2 (Release c.call.line) r

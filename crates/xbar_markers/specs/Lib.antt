@@ -1,4 +1,6 @@
 pub mod Calls
+pub mod Gates
+pub mod Notes
 pub mod Tasks
 pub mod Work
 pub mod Shares

@@ -9,10 +9,17 @@ use Rattle.xbar_markers.specs.Calls.{HasDialTone, IsServed, records_of}
 use Rattle.xbar_markers.specs.Work.{AreShort, WorkerHasWorked, HaveWorked, IsReady}
 use Rattle.xbar_markers.specs.declared.call.Call.{Call}
 use Rattle.xbar_markers.specs.declared.call_records.CallRecords.{CallRecords}
-use Rattle.xbar_markers.specs.declared.queues.Queues.{Queues}
-use Rattle.xbar_markers.specs.declared.share.Share.{Share}
-use Rattle.xbar_markers.specs.declared.task.Task.{Task}
+use Rattle.xbar_markers.specs.Tasks.{Task}
+use Rattle.xbar_markers.specs.declared.queues.Queues as declared_queues
+use Rattle.xbar_markers.specs.declared.share.Share as declared_share
 use Rattle.xbar_markers.specs.declared.task.Task.TheVariants as task
+
+-- the queues and a share as contracts see them: their calls are calls' records
+abbrev pub Queues : Type 0
+Queues = declared_queues.Queues CallRecords
+
+abbrev pub Share : Type 0
+Share = declared_share.Share CallRecords
 
 -- the call in a task, with its records so far
 abbrev pub in_task : Task → List CallRecords

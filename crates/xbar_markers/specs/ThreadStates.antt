@@ -2,12 +2,15 @@
 use Rattle.std.specs.Prelude.{◌≡◌, ℕ, IsSomeAnd, List, [], ◌∷◌, All, length, map, slice_get, ⊤}
 use Rattle.xbar_moves.specs.declared.kind.Kind.{Kind}
 use Rattle.xbar_fabric.specs.Views.{DeskView, FabricView}
-use Rattle.xbar_markers.specs.Shares.{IsShareOf, MayUse}
+use Rattle.xbar_markers.specs.Shares.{IsShareOf, MayUse, Queues, Share}
 use Rattle.xbar_markers.specs.Work.{IsReady}
-use Rattle.xbar_markers.specs.declared.queues.Queues.{Queues}
-use Rattle.xbar_markers.specs.declared.thread_state.ThreadState.{ThreadState}
-use Rattle.xbar_markers.specs.declared.share.Share.{Share}
+use Rattle.xbar_markers.specs.declared.call_records.CallRecords.{CallRecords}
+use Rattle.xbar_markers.specs.declared.thread_state.ThreadState as declared
 use Rattle.xbar_markers.specs.declared.worker.Worker.{Worker}
+
+-- a thread state as contracts see it: its share's calls are calls' records
+abbrev pub ThreadState : Type 0 → Type 0 → Type 0
+ThreadState D G = declared.ThreadState D G CallRecords
 
 module _ {G : Type 0} where
   -- the desk of a thread state

@@ -2,6 +2,7 @@
 
 ghost use Rattle.std.specs.Prelude.{◌≡◌, ◌+◌, ◌≤◌, ◌<◌, ◌↔◌, Err, All, IfOk, vec_len};
 ghost use Rattle.xbar_markers.specs.Calls.{HasCallNo};
+ghost use Rattle.xbar_markers.specs.Gates.{AreForMarkers};
 ghost use Rattle.xbar_markers.specs.Outcomes.{IsOutcome};
 
 use crate::call::Call;
@@ -29,9 +30,9 @@ pub struct Outcome<'p> {
 }
 
 /// Does calls with `dialling` markers that dial and `completing` markers that complete calls, each
-/// on its own thread. The first gates are for those that dial. The calls' numbers should be
-/// distinct, so that their jobs' are. Fails with `Markers` unless there is at least one of each
-/// and at most 48 in all.
+/// on its own thread. Gate `k` is for marker `k`, and the first markers are those that dial. The
+/// calls' numbers should be distinct, so that their jobs' are. Fails with `Markers` unless there is
+/// at least one of each and at most 48 in all.
 pub fn run_calls<'p, G: Gate + Send + Drop, R: Threads + Wait + Sync>(
     rt: &R,
     alloc: Global,
@@ -43,6 +44,7 @@ pub fn run_calls<'p, G: Gate + Send + Drop, R: Threads + Wait + Sync>(
 ) -> Result<Outcome<'p>, RunFault>
     requires call_nos { All HasCallNo calls.now }
     requires gates { vec_len gates ≡ dialling + completing }
+    requires for_markers { AreForMarkers G.IsAt gates.items }
     ensures outcome { IfOk result (IsOutcome plan.now dialling completing calls.now) }
     ensures markers { (result ≡ Err RunFault.Markers)
         ↔ ¬ ((0 < dialling) × (0 < completing) × (dialling + completing ≤ 48)) }

@@ -15,6 +15,7 @@ use crate::lists::put_behind;
 use crate::queues::Queues;
 use crate::share::Share;
 use crate::task::Task;
+use crate::words::Words;
 use crate::worker::Worker;
 use std::alloc::AllocError;
 use std::sync::Wait;
@@ -29,14 +30,27 @@ fn is_connected(complete: &Record) -> bool
 
 impl<G: Gate + Drop> Worker<Desk, G> {
     /// Does what is left to do for a call with dial tone: completes it, and releases it if that is
-    /// asked for and it is connected.
-    fn complete<R: Wait>(&mut self, rt: &R, fabric: &Fabric, call: DialledCall) -> CallRecords
+    /// asked for and it is connected. Learns the call's note first, so that this comes after the
+    /// call's dial tone job.
+    fn complete<R: Wait, W: Words>(
+        &mut self,
+        rt: &R,
+        fabric: &Fabric,
+        call: DialledCall<W>,
+    ) -> CallRecords
+        requires words { W.table ≡ fabric.now.table }
         requires ready { IsReady self.old.desk fabric.now }
         requires kind { self.old.desk.kind ≡ Completing }
         requires tone { HasDialTone call }
         ensures { HasCompleted self.old.desk self.new.desk call result }
     {
-        let DialledCall { call, dial } = call;
+        let DialledCall {
+            call,
+            dial,
+            note,
+            ..
+        } = call;
+        self.desk.learn(fabric, note);
         let first = 3 * call.call_no;
         let complete = self.do_job(rt, fabric, first + 1, Job::Complete(call.line, call.digits));
         let release = if call.release && is_connected(&complete) {
@@ -54,15 +68,16 @@ impl<G: Gate + Drop> Worker<Desk, G> {
 
     /// Takes a task and does it. With `wait` it waits for a task. Returns whether to go on: not if
     /// there was no task, nor after a stop if it waits.
-    fn complete_next<R: Wait>(
+    fn complete_next<R: Wait, W: Words>(
         &mut self,
         rt: &R,
         fabric: &Fabric,
-        queues: &Queues,
-        share: &mut Share,
+        queues: &Queues<DialledCall<W>>,
+        share: &mut Share<DialledCall<W>>,
         wait: bool,
     ) -> Result<bool, AllocError>
-        requires { MayServe Completing fabric.now queues.now self.old.desk share.old }
+        requires words { W.table ≡ fabric.now.table }
+        requires serve { MayServe Completing fabric.now queues.now self.old.desk share.old }
         ensures nothing { result ≡ Ok false → wait ≡ false → IsWhole share.old.tasks →
             SameItems share.new.tasks.put share.new.tasks.taken }
         ensures ready { IsReady self.new.desk fabric.now }
@@ -89,15 +104,16 @@ impl<G: Gate + Drop> Worker<Desk, G> {
     }
 
     /// Completes calls: with `wait` until it takes a stop, else until the queue is empty.
-    pub fn complete_all<R: Wait>(
+    pub fn complete_all<R: Wait, W: Words>(
         &mut self,
         rt: &R,
         fabric: &Fabric,
-        queues: &Queues,
-        share: &mut Share,
+        queues: &Queues<DialledCall<W>>,
+        share: &mut Share<DialledCall<W>>,
         wait: bool,
     ) -> Result<(), AllocError>
-        requires { MayServe Completing fabric.now queues.now self.old.desk share.old }
+        requires words { W.table ≡ fabric.now.table }
+        requires serve { MayServe Completing fabric.now queues.now self.old.desk share.old }
         ensures nothing { OnOk result (wait ≡ false → IsWhole share.old.tasks →
             SameItems share.new.tasks.put share.new.tasks.taken) }
         ensures ready { IsReady self.new.desk fabric.now }
@@ -116,12 +132,13 @@ impl<G: Gate + Drop> Worker<Desk, G> {
     }
 
     /// Completes the calls that the second queue handed back.
-    pub fn complete_kept<R: Wait>(
+    pub fn complete_kept<R: Wait, W: Words>(
         &mut self,
         rt: &R,
         fabric: &Fabric,
-        share: &mut Share,
+        share: &mut Share<DialledCall<W>>,
     ) -> Result<(), AllocError>
+        requires words { W.table ≡ fabric.now.table }
         requires ready { IsReady self.old.desk fabric.now }
         requires kind { self.old.desk.kind ≡ Completing }
         requires kept { All HasDialTone share.old.kept.items }

@@ -15,6 +15,7 @@ use crate::gate::Gate;
 use crate::lists::put_behind;
 use crate::queues::Queues;
 use crate::share::Share;
+use crate::words::Words;
 use crate::worker::Worker;
 use std::alloc::AllocError;
 use std::sync::Wait;
@@ -23,7 +24,8 @@ use xbar_office::{End, Job};
 
 impl<G: Gate + Drop> Worker<Desk, G> {
     /// Does a call's dial tone job.
-    fn dial<R: Wait>(&mut self, rt: &R, fabric: &Fabric, call: Call) -> DialledCall
+    fn dial<R: Wait, W: Words>(&mut self, rt: &R, fabric: &Fabric, call: Call) -> DialledCall<W>
+        requires words { W.table ≡ fabric.now.table }
         requires ready { IsReady self.old.desk fabric.now }
         requires kind { self.old.desk.kind ≡ Dial }
         requires call_no { HasCallNo call }
@@ -33,19 +35,21 @@ impl<G: Gate + Drop> Worker<Desk, G> {
             result.dial }
     {
         let dial = self.do_job(rt, fabric, 3 * call.call_no, Job::Dial(call.line));
-        DialledCall { call, dial }
+        let note = self.desk.note(fabric);
+        DialledCall::new(call, dial, note)
     }
 
     /// Takes a call, does its dial tone job, and passes it on if its line has dial tone. Returns
     /// whether there was a call.
-    fn dial_next<R: Wait>(
+    fn dial_next<R: Wait, W: Words>(
         &mut self,
         rt: &R,
         fabric: &Fabric,
-        queues: &Queues,
-        share: &mut Share,
+        queues: &Queues<DialledCall<W>>,
+        share: &mut Share<DialledCall<W>>,
     ) -> Result<bool, AllocError>
-        requires { MayServe Dial fabric.now queues.now self.old.desk share.old }
+        requires words { W.table ≡ fabric.now.table }
+        requires serve { MayServe Dial fabric.now queues.now self.old.desk share.old }
         ensures none { result ≡ Ok false → IsWhole share.old.calls →
             SameItems share.new.calls.put share.new.calls.taken }
         ensures ready { IsReady self.new.desk fabric.now }
@@ -56,7 +60,7 @@ impl<G: Gate + Drop> Worker<Desk, G> {
         let Some(call) = queues.calls_out.try_take(rt, &mut share.calls) else {
             return Ok(false);
         };
-        let call = self.dial(rt, fabric, call);
+        let call: DialledCall<W> = self.dial(rt, fabric, call);
         if let End::DialTone { .. } = call.dial.reply.end {
             share.pass_on(rt, queues, call)?;
         } else {
@@ -66,14 +70,15 @@ impl<G: Gate + Drop> Worker<Desk, G> {
     }
 
     /// Does the dial tone jobs of calls until the queue is empty.
-    pub fn dial_all<R: Wait>(
+    pub fn dial_all<R: Wait, W: Words>(
         &mut self,
         rt: &R,
         fabric: &Fabric,
-        queues: &Queues,
-        share: &mut Share,
+        queues: &Queues<DialledCall<W>>,
+        share: &mut Share<DialledCall<W>>,
     ) -> Result<(), AllocError>
-        requires { MayServe Dial fabric.now queues.now self.old.desk share.old }
+        requires words { W.table ≡ fabric.now.table }
+        requires serve { MayServe Dial fabric.now queues.now self.old.desk share.old }
         ensures none { OnOk result (IsWhole share.old.calls →
             SameItems share.new.calls.put share.new.calls.taken) }
         ensures ready { IsReady self.new.desk fabric.now }

@@ -6,6 +6,7 @@ ghost use Rattle.fair_queue.specs.Items.{SameItems};
 ghost use Rattle.xbar_markers.specs.Calls.{records_of};
 
 use crate::call_records::CallRecords;
+use crate::gate::Gate;
 use crate::lists::put_behind;
 use crate::worker::Worker;
 use std::alloc::{AllocError, Global};
@@ -64,7 +65,7 @@ pub fn in_turn_order(alloc: Global, calls: Vec<CallRecords>) -> Result<Vec<Recor
 }
 
 /// The desks of workers, in their order.
-pub fn desks_of<G: Drop>(
+pub fn desks_of<G: Gate + Drop>(
     alloc: Global,
     workers: Vec<Worker<Desk, G>>,
 ) -> Result<Vec<Desk>, AllocError>

@@ -1,11 +1,13 @@
 //! A job that one worker begins and another brings to its end.
 
-ghost use Rattle.std.specs.Prelude.{◌≡◌, ℕ, Some, None, MatchResult, true, false};
+ghost use Rattle.std.specs.Prelude.{◌≡◌, ◌≢◌, ℕ, Some, None, MatchResult, true, false};
 ghost use Rattle.std.specs.Thread.{IsSend, IsSync};
-ghost use Rattle.xbar_moves.specs.Moves.{refusal_of};
+ghost use Rattle.xbar_moves.specs.Exchange.{is_idle};
+ghost use Rattle.xbar_moves.specs.Moves.{given_by, refusal_of};
 ghost use Rattle.xbar_fabric.specs.Views.{DeskView, IsDeskOf, marker_of};
 ghost use Rattle.xbar_markers.specs.Handing.{HasGiven, IsAtHand, IsBegun, IsHanded};
-ghost use Rattle.xbar_markers.specs.Work.{HasDone, WorkerHasStepped, IsDoing};
+ghost use Rattle.xbar_markers.specs.Work.{HasDone, HasMadeSteps, IsDoing, IsDoneOr};
+ghost use Rattle.xbar_markers.specs.Work.{WorkerHasStepped};
 
 use crate::worker::yield_once_given_back;
 use std::sync::Wait;
@@ -54,19 +56,23 @@ fn make_step(fabric: &Fabric, desk: &mut Desk) -> Option<Record>
 fn step_on(fabric: &Fabric, desk: &mut Desk) -> Option<Record>
     requires { IsDeskOf desk.old fabric.now }
     ensures desk { IsDeskOf desk.new fabric.now }
-    ensures hand { (before : DeskView) (number : ℕ) (job : Job) →
-        IsDoing number job before desk.old → IsAtHand before number job desk.new result }
+    ensures done { (before : DeskView) (number : ℕ) (job : Job) →
+        IsDoing number job before desk.old → IsDoneOr number job before desk.new result }
+    ensures made { is_idle desk.old.work ≡ false → HasMadeSteps 1 desk.old desk.new }
+    ensures busy { is_idle desk.old.work ≡ false → result ≡ None →
+        is_idle desk.new.work ≡ false }
 {
     // Called only for their contracts.
-    xbar_fabric::laws::own_records_are_of_own_jobs();
+    xbar_fabric::laws::desks_report_their_records();
+    xbar_fabric::laws::reports_are_of_assigned_jobs();
     xbar_fabric::laws::next_records_have_later_turns();
     let ended = make_step(fabric, desk);
     let _marker = desk.marker();
     ended
 }
 
-/// What the first worker does: assigns the job and makes at most `stop` steps. Returns the job's
-/// record if the job ends by then.
+/// What the first worker does: assigns the job and makes `stop` steps, fewer if the job ends by
+/// then. Returns the job's record if it does.
 fn begin(
     fabric: &Fabric,
     mut desk: Desk,
@@ -76,12 +82,12 @@ fn begin(
 ) -> (Desk, Result<Option<Record>, AssignFault>)
     requires { IsDeskOf desk fabric.now }
     ensures desk { IsDeskOf result.0 fabric.now }
-    ensures begun { IsBegun desk job_no job result.0 result.1 }
+    ensures begun { IsBegun desk job_no job stop result.0 result.1 }
 {
     if let Err(why) = desk.assign(job_no, job) {
         return (desk, Err(why));
     }
-    for _ in 0..stop {
+    for _made in 0..stop {
         if let Some(record) = step_on(fabric, &mut desk) {
             return (desk, Ok(Some(record)));
         }
@@ -91,9 +97,11 @@ fn begin(
 
 /// Makes the desk's steps until its job ends, and returns the job's record.
 fn bring_to_end<R: Wait>(rt: &R, fabric: &Fabric, desk: &mut Desk) -> Record
-    requires { IsDeskOf desk.old fabric.now }
-    ensures { (before : DeskView) (number : ℕ) (job : Job) →
+    requires of { IsDeskOf desk.old fabric.now }
+    requires busy { is_idle desk.old.work ≡ false }
+    ensures done { (before : DeskView) (number : ℕ) (job : Job) →
         IsDoing number job before desk.old → HasDone before desk.new number job result }
+    ensures made { (count : ℕ) × HasMadeSteps count desk.old desk.new }
 {
     for _ in rt.forever() {
         if let Some(record) = step_on(fabric, desk) {
@@ -108,10 +116,12 @@ fn gives_back(fabric: &Fabric, desk: &mut Desk) -> bool
     requires { IsDeskOf desk.old fabric.now }
     ensures given { result ≡ true → (before : DeskView) (number : ℕ) (job : Job) →
         IsDoing number job before desk.old → HasGiven before desk.new number job }
+    ensures gave { result ≡ true → given_by desk.old.work ≡ Given.Given }
     ensures kept { result ≡ false → desk.new ≡ desk.old }
+    ensures not { result ≡ false → given_by desk.old.work ≢ Given.Given }
 {
     // Called only for its contract.
-    xbar_fabric::laws::own_records_are_of_own_jobs();
+    xbar_fabric::laws::desks_report_their_records();
     match desk.give_back(fabric) {
         Given::Given => true,
         Given::PastTurn | Given::Idle => false,
@@ -126,10 +136,11 @@ fn go_on<R: Wait>(
     ended: Option<Record>,
     then: Then,
 ) -> (Desk, Handed)
-    requires { IsDeskOf desk fabric.now }
-    ensures { (before : DeskView) (number : ℕ) (job : Job) →
-        IsAtHand before number job desk ended →
-        IsHanded before number job then result.0 result.1 }
+    requires of { IsDeskOf desk fabric.now }
+    requires busy { ended ≡ None → is_idle desk.work ≡ false }
+    ensures { (before : DeskView) (number stop : ℕ) (job : Job) →
+        IsAtHand before number job stop desk ended →
+        IsHanded before number job stop then result.0 result.1 }
 {
     if let Some(record) = ended {
         return (desk, Handed::Finished(record));
@@ -163,9 +174,9 @@ fn on_thread<A: Send + Drop, B: Send, F: Fn(A) -> B + Sync, R: Threads>(
     made
 }
 
-/// Has a first worker assign the job to the desk and make `stop` of its steps, fewer if the job
-/// ends. Then moves the desk to a second worker, on another thread, which goes on from there. If
-/// no thread can be made, the calling thread does the work.
+/// Has a first worker assign the job to the desk and make exactly `stop` of its steps, fewer only
+/// if the job ends. Then moves the desk to a second worker, on another thread, which goes on from
+/// there. If no thread can be made, the calling thread does the work.
 pub fn hand_over<R: Threads + Wait + Sync>(
     rt: &R,
     fabric: &Fabric,
@@ -178,12 +189,13 @@ pub fn hand_over<R: Threads + Wait + Sync>(
     requires { IsDeskOf desk fabric.now }
     ensures { MatchResult result
         (λ handed. (refusal_of (marker_of desk) job ≡ None)
-        × IsHanded desk job_no job then handed.0 handed.1)
+        × IsHanded desk job_no job stop then handed.0 handed.1)
         (λ fault. (refusal_of (marker_of desk) job ≡ Some fault.why) × (fault.desk ≡ desk)) }
 {
     let first = |desk: Desk| -> (Desk, Result<Option<Record>, AssignFault>)
         requires { IsDeskOf desk fabric.now }
-        ensures { IsDeskOf result.0 fabric.entry.now × IsBegun desk job_no job result.0 result.1 }
+        ensures { IsDeskOf result.0 fabric.entry.now
+            × IsBegun desk job_no job stop result.0 result.1 }
     { begin(fabric, desk, job_no, job, stop) };
     let (desk, begun) = on_thread(rt, &first, desk);
     let ended = match begun {
@@ -191,10 +203,11 @@ pub fn hand_over<R: Threads + Wait + Sync>(
         Err(why) => return Err(HandFault { desk, why }),
     };
     let second = |(desk, ended): (Desk, Option<Record>)| -> (Desk, Handed)
-        requires { IsSync R.row × IsDeskOf desk fabric.now }
-        ensures { (before : DeskView) (number : ℕ) (job : Job)
-            → IsAtHand before number job desk ended
-            → IsHanded before number job then result.0 result.1 }
+        requires { IsSync R.row × IsDeskOf desk fabric.now
+            × (ended ≡ None → is_idle desk.work ≡ false) }
+        ensures { (before : DeskView) (number stop : ℕ) (job : Job)
+            → IsAtHand before number job stop desk ended
+            → IsHanded before number job stop then result.0 result.1 }
     { go_on(rt, fabric, desk, ended, then) };
     Ok(on_thread(rt, &second, (desk, ended)))
 }

@@ -29,4 +29,5 @@ mod share;
 mod stages;
 mod task;
 mod thread_state;
+mod words;
 mod worker;

@@ -13,18 +13,22 @@ ghost use Rattle.xbar_markers.specs.ThreadStates.{HaveServed, IsThere, desks_at}
 ghost use Rattle.xbar_markers.specs.Shares.{AreOpen, HasTickets, IsFilled, IsNewShare};
 ghost use Rattle.xbar_markers.specs.Shares.{IsShareOf, MayUse};
 ghost use Rattle.xbar_markers.specs.DesksByKind.{AreDesksByKind, kinds_of};
+ghost use Rattle.xbar_markers.specs.Gates.{AreForDesks};
 ghost use Rattle.xbar_markers.specs.Work.{AreShort, HaveWorked};
 ghost use Rattle.xbar_markers.specs.declared.call.Call.{Call as CallView};
 
 use crate::call::Call;
+use crate::dialled_call::DialledCall;
 use crate::gate::Gate;
 use crate::gathering::{desks_of, in_turn_order};
 use crate::queues::Queues;
 use crate::share::Share;
 use crate::stages::{Stages, run_stages};
 use crate::thread_state::{gather, open_states};
+use crate::words::Words;
 use crate::worker::Worker;
 use std::alloc::{AllocError, Global};
+use std::marker::Brand;
 use std::mem;
 use std::sync::Wait;
 use std::thread::Threads;
@@ -47,7 +51,12 @@ fn count_dialling(desks: &[Desk]) -> usize
 }
 
 /// Puts all calls into the first queue, which has room for them.
-fn fill<R: Wait>(rt: &R, queues: &Queues, whole: &mut Share, calls: &[Call])
+fn fill<R: Wait, W: Words>(
+    rt: &R,
+    queues: &Queues<DialledCall<W>>,
+    whole: &mut Share<DialledCall<W>>,
+    calls: &[Call],
+)
     requires new { IsNewShare queues.now whole.old }
     requires room { length calls.now ≤ queues.now.calls_in.capacity }
     requires call_nos { All HasCallNo calls.now }
@@ -61,13 +70,14 @@ fn fill<R: Wait>(rt: &R, queues: &Queues, whole: &mut Share, calls: &[Call])
 }
 
 /// Has the first worker dial the calls that are still in the first queue.
-fn dial_left<G: Gate + Drop, R: Wait>(
+fn dial_left<G: Gate + Drop, R: Wait, W: Words>(
     rt: &R,
     fabric: &Fabric,
-    queues: &Queues,
+    queues: &Queues<DialledCall<W>>,
     workers: &mut Vec<Worker<Desk, G>>,
-    whole: &mut Share,
+    whole: &mut Share<DialledCall<W>>,
 ) -> Result<(), AllocError>
+    requires words { W.table ≡ fabric.now.table }
     requires open { AreOpen queues.now }
     requires may { MayUse whole.old queues.now }
     requires parts { IsWhole whole.old.calls }
@@ -87,14 +97,15 @@ fn dial_left<G: Gate + Drop, R: Wait>(
 
 /// Has the worker at this index complete the calls that are still in the second queue, or that
 /// this queue handed back.
-fn complete_rest<G: Gate + Drop, R: Wait>(
+fn complete_rest<G: Gate + Drop, R: Wait, W: Words>(
     rt: &R,
     fabric: &Fabric,
-    queues: &Queues,
+    queues: &Queues<DialledCall<W>>,
     workers: &mut Vec<Worker<Desk, G>>,
     at: usize,
-    whole: &mut Share,
+    whole: &mut Share<DialledCall<W>>,
 ) -> Result<(), AllocError>
+    requires words { W.table ≡ fabric.now.table }
     requires open { AreOpen queues.now }
     requires may { MayUse whole.old queues.now }
     requires parts { IsWhole whole.old.tasks }
@@ -115,19 +126,21 @@ fn complete_rest<G: Gate + Drop, R: Wait>(
 
 /// Lets all desks work, each on its own thread, until both queues have nothing for them. Returns
 /// the workers, their shares joined into one, and the number of workers that dial.
-fn work_all<G: Gate + Send + Drop, R: Threads + Wait + Sync>(
+fn work_all<G: Gate + Send + Drop, R: Threads + Wait + Sync, W: Words + Send + Sync>(
     rt: &R,
     alloc: Global,
     fabric: &Fabric,
-    queues: &Queues,
-    mut whole: Share,
+    queues: &Queues<DialledCall<W>>,
+    mut whole: Share<DialledCall<W>>,
     desks: Vec<Desk>,
     gates: Vec<G>,
-) -> Result<(Vec<Worker<Desk, G>>, Share, usize), AllocError>
+) -> Result<(Vec<Worker<Desk, G>>, Share<DialledCall<W>>, usize), AllocError>
+    requires words { W.table ≡ fabric.now.table }
     requires open { AreOpen queues.now }
     requires filled { (calls : List CallView) × IsFilled queues.now calls whole }
     requires desks { AreDesksByKind desks.items fabric.now }
     requires gates { vec_len gates ≡ vec_len desks }
+    requires for_desks { AreForDesks G.IsAt gates.items desks.items }
     ensures may { IfOk result (λ done. MayUse done.1 queues.now) }
     ensures parts { IfOk result (λ done. IsWhole done.1.calls × IsWhole done.1.tasks) }
     ensures put { IfOk result (λ done. done.1.calls.put ≡ whole.calls.put) }
@@ -159,15 +172,16 @@ fn work_all<G: Gate + Send + Drop, R: Threads + Wait + Sync>(
 
 /// Has the first worker of each kind do what is still in the queues. Returns the records of all
 /// jobs, in turn order.
-fn finish<G: Gate + Drop, R: Wait>(
+fn finish<G: Gate + Drop, R: Wait, W: Words>(
     rt: &R,
     alloc: Global,
     fabric: &Fabric,
-    queues: &Queues,
+    queues: &Queues<DialledCall<W>>,
     workers: &mut Vec<Worker<Desk, G>>,
     dialling: usize,
-    whole: &mut Share,
+    whole: &mut Share<DialledCall<W>>,
 ) -> Result<Vec<Record>, AllocError>
+    requires words { W.table ≡ fabric.now.table }
     requires open { AreOpen queues.now }
     requires may { MayUse whole.old queues.now }
     requires parts { IsWhole whole.old.calls × IsWhole whole.old.tasks }
@@ -190,19 +204,21 @@ fn finish<G: Gate + Drop, R: Wait>(
 
 /// Does the calls in the first queue. Returns the desks and the records of all jobs, in turn
 /// order.
-fn run_filled<G: Gate + Send + Drop, R: Threads + Wait + Sync>(
+fn run_filled<G: Gate + Send + Drop, R: Threads + Wait + Sync, W: Words + Send + Sync>(
     rt: &R,
     alloc: Global,
     fabric: &Fabric,
-    queues: &Queues,
-    whole: Share,
+    queues: &Queues<DialledCall<W>>,
+    whole: Share<DialledCall<W>>,
     desks: Vec<Desk>,
     gates: Vec<G>,
 ) -> Result<(Vec<Desk>, Vec<Record>), AllocError>
+    requires words { W.table ≡ fabric.now.table }
     requires open { AreOpen queues.now }
     requires filled { (calls : List CallView) × IsFilled queues.now calls whole }
     requires desks { AreDesksByKind desks.items fabric.now }
     requires gates { vec_len gates ≡ vec_len desks }
+    requires for_desks { AreForDesks G.IsAt gates.items desks.items }
     ensures desks { IfOk result (λ ran. HaveWorked desks.items ran.0.items ran.1.items) }
     ensures served { IfOk result (λ ran.
         AreServed (AreShort ran.0.items) whole.calls.put ran.1.items) }
@@ -223,8 +239,33 @@ fn run_filled<G: Gate + Send + Drop, R: Threads + Wait + Sync>(
     Ok((desks_of(alloc, workers)?, records))
 }
 
+/// Does all calls as `run_desks` does, with notes that are of the fabric's words.
+fn run_on<W: Words + Send + Sync, G: Gate + Send + Drop, R: Threads + Wait + Sync>(
+    rt: &R,
+    alloc: Global,
+    fabric: &Fabric,
+    desks: Vec<Desk>,
+    calls: &[Call],
+    gates: Vec<G>,
+) -> Result<(Vec<Desk>, Vec<Record>), AllocError>
+    requires words { W.table ≡ fabric.now.table }
+    requires desks { AreDesksByKind desks.items fabric.now }
+    requires call_nos { All HasCallNo calls.now }
+    requires gates { vec_len gates ≡ vec_len desks }
+    requires for_desks { AreForDesks G.IsAt gates.items desks.items }
+    ensures desks { IfOk result (λ ran. HaveWorked desks.items ran.0.items ran.1.items) }
+    ensures served { IfOk result (λ ran.
+        AreServed (AreShort ran.0.items) calls.now ran.1.items) }
+    ensures order { IfOk result (λ ran. IsNonDecreasingBy (λ r. r.turn) ran.1.items) }
+{
+    let (queues, mut whole) = Queues::<DialledCall<W>>::open(alloc, calls.len(), desks.len())?;
+    fill(rt, &queues, &mut whole, calls);
+    run_filled(rt, alloc, fabric, &queues, whole, desks, gates)
+}
+
 /// Does all calls with all desks of a fabric, each on its own thread. Returns the desks and the
-/// records of all jobs, in turn order. The first gate is for marker 0.
+/// records of all jobs, in turn order. Each desk has the gate at its index, which is for its
+/// marker.
 ///
 /// If memory runs out the desks are lost, and the turns that they took stay in the fabric.
 pub fn run_desks<G: Gate + Send + Drop, R: Threads + Wait + Sync>(
@@ -238,6 +279,7 @@ pub fn run_desks<G: Gate + Send + Drop, R: Threads + Wait + Sync>(
     requires desks { AreDesksByKind desks.items fabric.now }
     requires call_nos { All HasCallNo calls.now }
     requires gates { vec_len gates ≡ vec_len desks }
+    requires for_markers { AreForDesks G.IsAt gates.items desks.items }
     ensures desks { IfOk result (λ ran. HaveWorked desks.items ran.0.items ran.1.items) }
     ensures served { IfOk result (λ ran.
         AreServed (AreShort ran.0.items) calls.now ran.1.items) }
@@ -246,7 +288,5 @@ pub fn run_desks<G: Gate + Send + Drop, R: Threads + Wait + Sync>(
     ensures idle { IfOk result (λ ran.
         AreAllIdle desks.items fabric.now → AreAllIdle ran.0.items fabric.now) }
 {
-    let (queues, mut whole) = Queues::open(alloc, calls.len(), desks.len())?;
-    fill(rt, &queues, &mut whole, calls);
-    run_filled(rt, alloc, fabric, &queues, whole, desks, gates)
+    run_on::<Brand, G, R>(rt, alloc, fabric, desks, calls, gates)
 }

@@ -9,24 +9,25 @@ use crate::dialled_call::DialledCall;
 use crate::lists::{put_all_behind, put_behind};
 use crate::queues::Queues;
 use crate::task::Task;
-use fair_queue::Ticket;
+use crate::words::Words;
+use fair_queue::{Item, Ticket};
 use std::alloc::{AllocError, Global};
 use std::sync::Wait;
 
 /// A worker's share of the work: what it took from the queues, and what became of that.
 #[derive(Drop)]
-pub struct Share {
+pub struct Share<C: Item + Drop> {
     pub calls: Ticket<Call>,
-    pub tasks: Ticket<Task>,
+    pub tasks: Ticket<Task<C>>,
     /// Calls with dial tone that the second queue handed back.
-    pub kept: Vec<DialledCall>,
+    pub kept: Vec<C>,
     /// Calls for which nothing is left to do.
     pub ended: Vec<CallRecords>,
 }
 
-impl Share {
+impl<W: Words> Share<DialledCall<W>> {
     /// A share with these tickets and no calls.
-    pub fn new(alloc: Global, calls: Ticket<Call>, tasks: Ticket<Task>) -> Share
+    pub fn new(alloc: Global, calls: Ticket<Call>, tasks: Ticket<Task<DialledCall<W>>>) -> Self
         ensures tickets { (result.calls ≡ calls) × (result.tasks ≡ tasks) }
         ensures none { (result.kept.items ≡ []) × (result.ended.items ≡ []) }
     {
@@ -42,8 +43,8 @@ impl Share {
     pub fn pass_on<R: Wait>(
         &mut self,
         rt: &R,
-        queues: &Queues,
-        call: DialledCall,
+        queues: &Queues<DialledCall<W>>,
+        call: DialledCall<W>,
     ) -> Result<(), AllocError>
         requires may { MayUse self.old queues.now }
         requires tone { HasDialTone call }
@@ -61,7 +62,7 @@ impl Share {
     }
 
     /// Cuts off a share without calls, which has one part of each queue's ticket.
-    pub fn cut(&mut self, alloc: Global, queues: &Queues) -> Share
+    pub fn cut(&mut self, alloc: Global, queues: &Queues<DialledCall<W>>) -> Self
         requires may { MayUse self.old queues.now }
         requires parts { (1 < self.old.calls.parts) × (1 < self.old.tasks.parts) }
         ensures calls { self.new.calls ≡ with_fewer_parts self.old.calls 1 }
@@ -77,7 +78,11 @@ impl Share {
     }
 
     /// Adds another worker's share to this one.
-    pub fn join(&mut self, queues: &Queues, other: Share) -> Result<(), AllocError>
+    pub fn join(
+        &mut self,
+        queues: &Queues<DialledCall<W>>,
+        other: Share<DialledCall<W>>,
+    ) -> Result<(), AllocError>
         requires may { MayUse self.old queues.now }
         requires other { MayUse other queues.now }
         ensures calls { self.new.calls ≡ ticket_of_both self.old.calls other.calls }

@@ -7,11 +7,14 @@ ghost use Rattle.xbar_fabric.specs.Views.{DeskView};
 ghost use Rattle.xbar_markers.specs.ThreadStates.{HasWorkedOn, HaveWorkedOn, IsThreadState};
 ghost use Rattle.xbar_markers.specs.Shares.{AreOpen, HasStopped, MayUse};
 
+use crate::dialled_call::DialledCall;
 use crate::gate::Gate;
 use crate::queues::Queues;
 use crate::share::Share;
 use crate::task::Task;
 use crate::thread_state::ThreadState;
+use crate::words::Words;
+use fair_queue::Item;
 use std::alloc::{AllocError, Global};
 use std::sync::Wait;
 use std::thread;
@@ -30,12 +33,13 @@ fn all_ok<T: Drop>(alloc: Global, results: Vec<Result<T, AllocError>>) -> Result
 }
 
 /// Has a worker dial calls until the first queue is empty.
-fn dial_at<G: Gate + Drop, R: Wait>(
+fn dial_at<G: Gate + Drop, R: Wait, W: Words>(
     rt: &R,
     fabric: &Fabric,
-    queues: &Queues,
-    mut state: ThreadState<Desk, G>,
-) -> Result<ThreadState<Desk, G>, AllocError>
+    queues: &Queues<DialledCall<W>>,
+    mut state: ThreadState<Desk, G, DialledCall<W>>,
+) -> Result<ThreadState<Desk, G, DialledCall<W>>, AllocError>
+    requires words { W.table ≡ fabric.now.table }
     requires open { AreOpen queues.now }
     requires state { IsThreadState Dial fabric.now queues.now state }
     ensures { IfOk result (HasWorkedOn Dial fabric.now queues.now state) }
@@ -45,13 +49,14 @@ fn dial_at<G: Gate + Drop, R: Wait>(
 }
 
 /// Runs the workers that dial, each on its own thread.
-fn dial_stage<G: Gate + Send + Drop, R: Threads + Wait + Sync>(
+fn dial_stage<G: Gate + Send + Drop, R: Threads + Wait + Sync, W: Words + Send + Sync>(
     rt: &R,
     alloc: Global,
     fabric: &Fabric,
-    queues: &Queues,
-    states: Vec<ThreadState<Desk, G>>,
-) -> Result<Vec<ThreadState<Desk, G>>, AllocError>
+    queues: &Queues<DialledCall<W>>,
+    states: Vec<ThreadState<Desk, G, DialledCall<W>>>,
+) -> Result<Vec<ThreadState<Desk, G, DialledCall<W>>>, AllocError>
+    requires words { W.table ≡ fabric.now.table }
     requires open { AreOpen queues.now }
     requires states { All (IsThreadState Dial fabric.now queues.now) states.items }
     ensures { IfOk result (λ after.
@@ -60,7 +65,11 @@ fn dial_stage<G: Gate + Send + Drop, R: Threads + Wait + Sync>(
     let after = map_vec(
         rt,
         states,
-        &|state: ThreadState<Desk, G>| -> Result<ThreadState<Desk, G>, AllocError>
+        &|state: ThreadState<Desk, G, DialledCall<W>>| -> Result<
+            ThreadState<Desk, G, DialledCall<W>>,
+            AllocError,
+        >
+            requires words { W.table ≡ fabric.now.table }
             requires open { AreOpen queues.now }
             requires state { IsThreadState Dial fabric.now queues.now state }
             ensures { IfOk result (HasWorkedOn Dial fabric.entry.now queues.entry.now state) }
@@ -70,12 +79,13 @@ fn dial_stage<G: Gate + Send + Drop, R: Threads + Wait + Sync>(
 }
 
 /// Has a worker complete calls until it takes a stop.
-fn complete_at<G: Gate + Drop, R: Wait>(
+fn complete_at<G: Gate + Drop, R: Wait, W: Words>(
     rt: &R,
     fabric: &Fabric,
-    queues: &Queues,
-    mut state: ThreadState<Desk, G>,
-) -> Result<ThreadState<Desk, G>, AllocError>
+    queues: &Queues<DialledCall<W>>,
+    mut state: ThreadState<Desk, G, DialledCall<W>>,
+) -> Result<ThreadState<Desk, G, DialledCall<W>>, AllocError>
+    requires words { W.table ≡ fabric.now.table }
     requires open { AreOpen queues.now }
     requires state { IsThreadState Completing fabric.now queues.now state }
     ensures { IfOk result (HasWorkedOn Completing fabric.now queues.now state) }
@@ -87,13 +97,14 @@ fn complete_at<G: Gate + Drop, R: Wait>(
 }
 
 /// Runs the workers that complete calls, each on its own thread.
-fn complete_stage<G: Gate + Send + Drop, R: Threads + Wait + Sync>(
+fn complete_stage<G: Gate + Send + Drop, R: Threads + Wait + Sync, W: Words + Send + Sync>(
     rt: &R,
     alloc: Global,
     fabric: &Fabric,
-    queues: &Queues,
-    states: Vec<ThreadState<Desk, G>>,
-) -> Result<Vec<ThreadState<Desk, G>>, AllocError>
+    queues: &Queues<DialledCall<W>>,
+    states: Vec<ThreadState<Desk, G, DialledCall<W>>>,
+) -> Result<Vec<ThreadState<Desk, G, DialledCall<W>>>, AllocError>
+    requires words { W.table ≡ fabric.now.table }
     requires open { AreOpen queues.now }
     requires states { All (IsThreadState Completing fabric.now queues.now) states.items }
     ensures { IfOk result (λ after.
@@ -102,7 +113,11 @@ fn complete_stage<G: Gate + Send + Drop, R: Threads + Wait + Sync>(
     let after = map_vec(
         rt,
         states,
-        &|state: ThreadState<Desk, G>| -> Result<ThreadState<Desk, G>, AllocError>
+        &|state: ThreadState<Desk, G, DialledCall<W>>| -> Result<
+            ThreadState<Desk, G, DialledCall<W>>,
+            AllocError,
+        >
+            requires words { W.table ≡ fabric.now.table }
             requires open { AreOpen queues.now }
             requires state { IsThreadState Completing fabric.now queues.now state }
             ensures { IfOk result (HasWorkedOn Completing fabric.entry.now queues.entry.now state) }
@@ -112,7 +127,11 @@ fn complete_stage<G: Gate + Send + Drop, R: Threads + Wait + Sync>(
 }
 
 /// Puts a stop, for one worker that completes calls, into the second queue, which has room for it.
-fn stop_one<R: Wait>(rt: &R, queues: &Queues, whole: &mut Share)
+fn stop_one<R: Wait, W: Words>(
+    rt: &R,
+    queues: &Queues<DialledCall<W>>,
+    whole: &mut Share<DialledCall<W>>,
+)
     requires may { MayUse whole.old queues.now }
     ensures { HasStopped whole.old whole.new }
 {
@@ -130,7 +149,12 @@ fn stop_one<R: Wait>(rt: &R, queues: &Queues, whole: &mut Share)
 }
 
 /// Puts `stops` stops into the second queue.
-fn stop_all<R: Wait>(rt: &R, queues: &Queues, whole: &mut Share, stops: usize)
+fn stop_all<R: Wait, W: Words>(
+    rt: &R,
+    queues: &Queues<DialledCall<W>>,
+    whole: &mut Share<DialledCall<W>>,
+    stops: usize,
+)
     requires may { MayUse whole.old queues.now }
     ensures { HasStopped whole.old whole.new }
 {
@@ -140,15 +164,19 @@ fn stop_all<R: Wait>(rt: &R, queues: &Queues, whole: &mut Share, stops: usize)
 }
 
 /// Runs the workers that dial, and then puts the stops, so that no worker waits for ever.
-fn dial_and_stop<G: Gate + Send + Drop, R: Threads + Wait + Sync>(
+fn dial_and_stop<G: Gate + Send + Drop, R: Threads + Wait + Sync, W: Words + Send + Sync>(
     rt: &R,
     alloc: Global,
     fabric: &Fabric,
-    queues: &Queues,
-    states: Vec<ThreadState<Desk, G>>,
-    mut whole: Share,
+    queues: &Queues<DialledCall<W>>,
+    states: Vec<ThreadState<Desk, G, DialledCall<W>>>,
+    mut whole: Share<DialledCall<W>>,
     stops: usize,
-) -> (Result<Vec<ThreadState<Desk, G>>, AllocError>, Share)
+) -> (
+    Result<Vec<ThreadState<Desk, G, DialledCall<W>>>, AllocError>,
+    Share<DialledCall<W>>,
+)
+    requires words { W.table ≡ fabric.now.table }
     requires open { AreOpen queues.now }
     requires states { All (IsThreadState Dial fabric.now queues.now) states.items }
     requires may { MayUse whole queues.now }
@@ -163,20 +191,21 @@ fn dial_and_stop<G: Gate + Send + Drop, R: Threads + Wait + Sync>(
 
 /// The states of workers that dial and of workers that complete calls, and the share with the
 /// remaining parts of the tickets.
-pub struct Stages<D: Drop, G: Drop> {
-    pub dialling: Vec<ThreadState<D, G>>,
-    pub completing: Vec<ThreadState<D, G>>,
-    pub whole: Share,
+pub struct Stages<D: Drop, G: Gate + Drop, C: Item + Drop> {
+    pub dialling: Vec<ThreadState<D, G, C>>,
+    pub completing: Vec<ThreadState<D, G, C>>,
+    pub whole: Share<C>,
 }
 
 /// Runs workers of both kinds at once, until each has ended.
-pub fn run_stages<G: Gate + Send + Drop, R: Threads + Wait + Sync>(
+pub fn run_stages<G: Gate + Send + Drop, R: Threads + Wait + Sync, W: Words + Send + Sync>(
     rt: &R,
     alloc: Global,
     fabric: &Fabric,
-    queues: &Queues,
-    before: Stages<Desk, G>,
-) -> Result<Stages<Desk, G>, AllocError>
+    queues: &Queues<DialledCall<W>>,
+    before: Stages<Desk, G, DialledCall<W>>,
+) -> Result<Stages<Desk, G, DialledCall<W>>, AllocError>
+    requires words { W.table ≡ fabric.now.table }
     requires open { AreOpen queues.now }
     requires dialling { All (IsThreadState Dial fabric.now queues.now) before.dialling.items }
     requires completing { All
@@ -197,14 +226,19 @@ pub fn run_stages<G: Gate + Send + Drop, R: Threads + Wait + Sync>(
     // If no thread can be made, the second closure is run first, so that no worker waits for ever.
     let (completed, (dialled, whole)) = join(
         rt,
-        move || -> Result<Vec<ThreadState<Desk, G>>, AllocError>
-            requires { IsSync R.row × IsSend G.row × AreOpen queues.now
+        move || -> Result<Vec<ThreadState<Desk, G, DialledCall<W>>>, AllocError>
+            requires { IsSync R.row × IsSend G.row × IsSend W.row × IsSync W.row
+                × (W.table ≡ fabric.now.table) × AreOpen queues.now
                 × All (IsThreadState Completing fabric.now queues.now) completing.items }
             ensures { IfOk result (λ after. HaveWorkedOn Completing fabric.entry.now
                 queues.entry.now completing.items after.items) }
         { complete_stage(rt, alloc, fabric, queues, completing) },
-        move || -> (Result<Vec<ThreadState<Desk, G>>, AllocError>, Share)
-            requires { IsSync R.row × IsSend G.row × AreOpen queues.now
+        move || -> (
+            Result<Vec<ThreadState<Desk, G, DialledCall<W>>>, AllocError>,
+            Share<DialledCall<W>>,
+        )
+            requires { IsSync R.row × IsSend G.row × IsSend W.row × IsSync W.row
+                × (W.table ≡ fabric.now.table) × AreOpen queues.now
                 × All (IsThreadState Dial fabric.now queues.now) dialling.items
                 × MayUse whole queues.now }
             ensures { IfOk result.0 (λ after. HaveWorkedOn Dial fabric.entry.now queues.entry.now

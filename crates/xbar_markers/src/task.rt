@@ -1,12 +1,11 @@
 use crate::call::Call;
-use crate::dialled_call::DialledCall;
 use fair_queue::Item;
 
 /// What goes through the second queue, to workers that complete calls.
 #[derive(Drop)]
-pub enum Task {
+pub enum Task<C: Drop> {
     /// A call whose line has dial tone.
-    Complete(DialledCall),
+    Complete(C),
     /// There are no more calls.
     Stop,
 }
@@ -17,8 +16,8 @@ impl Item for Call {
     ghost sound = { HasCallNo };
 }
 
-impl Item for Task {
+impl<C: Item + Drop> Item for Task<C> {
     ghost use Rattle.xbar_markers.specs.Tasks.{IsSound};
 
-    ghost sound = { IsSound };
+    ghost sound = { IsSound C.sound };
 }

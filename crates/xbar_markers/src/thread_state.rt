@@ -4,36 +4,42 @@ ghost use Rattle.std.specs.Prelude.{◌≡◌, ◌+◌, ◌-◌, ◌<◌, ◌++�
 ghost use Rattle.fair_queue.specs.Tickets.{with_fewer_parts};
 ghost use Rattle.xbar_moves.specs.declared.kind.Kind.{Kind as KindView};
 ghost use Rattle.xbar_fabric.specs.Views.{DeskView};
+ghost use Rattle.xbar_markers.specs.Gates.{AreForDesks};
 ghost use Rattle.xbar_markers.specs.ThreadStates.{AreStatesOf, IsThreadState, desk_at};
 ghost use Rattle.xbar_markers.specs.Shares.{IsShareOf, MayUse};
 ghost use Rattle.xbar_markers.specs.Work.{IsReady};
 
 use crate::counted_gate::CountedGate;
+use crate::dialled_call::DialledCall;
+use crate::gate::Gate;
 use crate::lists::put_behind;
 use crate::queues::Queues;
 use crate::share::Share;
+use crate::words::Words;
 use crate::worker::Worker;
+use fair_queue::Item;
 use std::alloc::{AllocError, Global};
 use xbar_fabric::{Desk, Fabric};
 
 /// A worker and its share. It is `Send` if the desk and the gate are.
 #[derive(Drop)]
-pub struct ThreadState<D: Drop, G: Drop> {
+pub struct ThreadState<D: Drop, G: Gate + Drop, C: Item + Drop> {
     pub worker: Worker<D, G>,
-    pub share: Share,
+    pub share: Share<C>,
 }
 
 /// A thread state for each of the desks, with a gate and one part of each queue's ticket.
-pub fn open_states<G: Drop>(
+pub fn open_states<G: Gate + Drop, W: Words>(
     alloc: Global,
     fabric: &Fabric,
-    queues: &Queues,
-    whole: &mut Share,
+    queues: &Queues<DialledCall<W>>,
+    whole: &mut Share<DialledCall<W>>,
     desks: Vec<Desk>,
     gates: Vec<G>,
-) -> Result<Vec<ThreadState<Desk, G>>, AllocError>
+) -> Result<Vec<ThreadState<Desk, G, DialledCall<W>>>, AllocError>
     requires may { MayUse whole.old queues.now }
     requires gates { vec_len gates ≡ vec_len desks }
+    requires for_desks { AreForDesks G.IsAt gates.items desks.items }
     requires parts { (vec_len desks < whole.old.calls.parts)
         × (vec_len desks < whole.old.tasks.parts) }
     requires ready { All (λ desk. IsReady desk fabric.now) desks.items }
@@ -63,11 +69,11 @@ pub fn open_states<G: Drop>(
 }
 
 /// Joins the shares of thread states into `whole`, and appends their workers to `workers`.
-pub fn gather<G: Drop>(
+pub fn gather<G: Gate + Drop, W: Words>(
     _fabric: &Fabric,
-    queues: &Queues,
-    states: Vec<ThreadState<Desk, G>>,
-    whole: &mut Share,
+    queues: &Queues<DialledCall<W>>,
+    states: Vec<ThreadState<Desk, G, DialledCall<W>>>,
+    whole: &mut Share<DialledCall<W>>,
     workers: &mut Vec<Worker<Desk, G>>,
 ) -> Result<(), AllocError>
     requires may { MayUse whole.old queues.now }

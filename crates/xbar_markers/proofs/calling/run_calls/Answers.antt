@@ -4,8 +4,13 @@ use Rattle.xbar_office.specs.Legal.{after}
 use Rattle.xbar_office.specs.declared.reply.Record.{Record}
 use Rattle.xbar_fabric.specs.Meetings.{FabricHasClosed}
 use Rattle.xbar_markers.specs.DesksByKind.{kinds_of}
+use Rattle.xbar_markers.proofs.Gates.{for_new}
 use Rattle.xbar_markers.proofs.WholeOutcome.{legal, served, shows_after, taken, words_after}
 use Rattle.xbar_markers.proofs.calling.run_calls.Goals as goal
+
+pub run_desks-requires-clause-for_markers : goal.run_desks-requires-clause-for_markers
+run_desks-requires-clause-for_markers g c κs within =
+    for_new g.G.Gate.IsAt c.in_ok-fabric.fabric (kinds_of c.args.dialling c.args.completing) c.args.gates.items c.in_ok-fabric.desks.items c.in_ok-fabric.ensures.desks c.requires.for_markers
 
 pub shut_all-requires : goal.shut_all-requires
 shut_all-requires g c = c.in_ok-desks.ensures.idle c.in_ok-fabric.ensures.idle

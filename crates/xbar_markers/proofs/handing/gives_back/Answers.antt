@@ -14,8 +14,14 @@ returns-in-Given-clause-given c = λ _ before number job doing.
     let gave = c.give_back.ensures in
     let back = gave.back c.in-Given.is in
     let gives = sym gave.given ∙ c.in-Given.is in
-    has_given number job before c.args.desk.now c.give_back.new.self doing gave.same back
-    (c.own_records_are_of_own_jobs.ensures.given c.args.desk.now c.give_back.new.self gives back)
+    has_given number job before c.args.desk.now c.give_back.new.self doing gave.same gives back
+    (c.desks_report_their_records.ensures.given_back c.args.desk.now c.give_back.new.self gives back)
+
+pub returns-in-Given-clause-gave : goal.returns-in-Given-clause-gave
+returns-in-Given-clause-gave c = λ _. sym c.give_back.ensures.given ∙ c.in-Given.is
+
+pub returns-in-PastTurn-clause-not : goal.returns-in-PastTurn-clause-not
+returns-in-PastTurn-clause-not c = λ _ gives. not_given c.give_back.result c.in-PastTurn.is (c.give_back.ensures.given ∙ gives)
 
 pub returns-in-PastTurn-clause-kept : goal.returns-in-PastTurn-clause-kept
 returns-in-PastTurn-clause-kept c = λ _. c.give_back.ensures.kept (not_given c.give_back.result c.in-PastTurn.is)

@@ -22,5 +22,5 @@ on_thread-requires-send-B g c κs within = param_send _ _ (arg_send _ no _ (with
 
 pub returns : goal.returns
 returns g c =
-    let begun = subst (IsBegun c.args.desk c.args.job_no c.args.job c.on_thread-desk.result.0) c.in-Ok.is c.on_thread-desk.ensures.1 in
-    (begun.0, c.on_thread.ensures c.args.desk c.args.job_no c.args.job begun.1)
+    let begun = subst (IsBegun c.args.desk c.args.job_no c.args.job c.args.stop c.on_thread-desk.result.0) c.in-Ok.is c.on_thread-desk.ensures.1 in
+    (begun.0, c.on_thread.ensures c.args.desk c.args.job_no c.args.stop c.args.job begun.1)

@@ -1,12 +1,22 @@
 use Rattle.std.proofs.Common.{◌≡◌, ℕ, ◌++◌, List, arith, map, length, take, drop, sym, ap, ◌∙◌, subst}
+use Rattle.std.proofs.lemmas.List.{length-take}
 use Rattle.std.proofs.lemmas.List.Elements.{All-same}
 use Rattle.xbar_moves.specs.declared.kind.Kind.TheVariants.{Completing, Dial}
 use Rattle.xbar_fabric.specs.Views.{DeskView}
 use Rattle.xbar_markers.specs.ThreadStates.{IsThreadState, IsThere}
-use Rattle.xbar_markers.specs.declared.thread_state.ThreadState.{ThreadState}
+use Rattle.xbar_markers.specs.ThreadStates.{ThreadState}
 use Rattle.xbar_markers.specs.declared.worker.Worker.{Worker}
 use Rattle.xbar_markers.proofs.DeskRuns.{all_gathered, completers, diallers, first_count, last_count, nobodys_after, there_first, there_next}
 use Rattle.xbar_markers.proofs.running.work_all.Goals as goal
+
+pub split_off-requires : goal.split_off-requires
+split_off-requires g c =
+    let by_kind = c.requires.desks in
+    let hired = c.in_ok-dialling.ensures in
+    let states = c.in_ok-dialling.dialling.items in
+    let count = c.count_dialling-dialling_count.ensures by_kind.dialling by_kind.completing (ap (map (λ (d : DeskView). d.kind)) c.as_slice.ensures.value ∙ by_kind.kinds) in
+    let its = first_count by_kind.dialling by_kind.completing c.args.fabric.now c.args.queues.now c.args.desks.items states by_kind.kinds hired.desks hired.states in
+    omega (arith, count, its, length-take by_kind.dialling states, c.in_ok-dialling.dialling.ok.0)
 
 pub run_stages-requires-clause-dialling : goal.run_stages-requires-clause-dialling
 run_stages-requires-clause-dialling g c κs within =

@@ -3,7 +3,7 @@ use Rattle.std.proofs.lemmas.List.{append-nil, append_assoc, length-append, map-
 use Rattle.std.proofs.lemmas.List.Elements.{All-head, All-same, All-tail}
 use Rattle.xbar_fabric.specs.Views.{DeskView}
 use Rattle.xbar_markers.specs.ThreadStates.{IsThreadState}
-use Rattle.xbar_markers.specs.declared.thread_state.ThreadState.{ThreadState}
+use Rattle.xbar_markers.specs.ThreadStates.{ThreadState}
 use Rattle.xbar_markers.proofs.Joined.{IsJoined}
 use Rattle.xbar_markers.proofs.ThreadStates.{joined_may, none_joined, seat_joined}
 use Rattle.xbar_markers.proofs.thread_state.gather.Goals as goal

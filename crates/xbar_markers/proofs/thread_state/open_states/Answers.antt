@@ -1,14 +1,23 @@
-use Rattle.std.proofs.Common.{◌≡◌, ◌+◌, [], ◌∷◌, ◌++◌, length, map, sym, ap, ◌∙◌}
+use Rattle.std.proofs.Common.{◌≡◌, ◌+◌, [], ◌∷◌, ◌++◌, length, map, subst, sym, ap, ◌∙◌}
 use Rattle.std.proofs.lemmas.List.{append_assoc, length-append, map-append}
 use Rattle.std.proofs.lemmas.List.Elements.{All-head, All-push, All-tail}
 use Rattle.fair_queue.specs.Tickets.{new_ticket, with_fewer_parts}
 use Rattle.xbar_fabric.specs.Views.{DeskView}
 use Rattle.xbar_markers.specs.ThreadStates.{IsThreadState, desk_at}
 use Rattle.xbar_markers.specs.Work.{IsReady}
-use Rattle.xbar_markers.specs.declared.thread_state.ThreadState.{ThreadState}
+use Rattle.xbar_markers.specs.ThreadStates.{ThreadState}
+use Rattle.xbar_markers.proofs.Gates.{first_for, others_for}
 use Rattle.xbar_markers.proofs.Joined.{first_share}
 use Rattle.xbar_markers.proofs.ThreadStates.{both_shorter, fewer_again, new_seat, seats_and_one}
 use Rattle.xbar_markers.proofs.thread_state.open_states.Goals as goal
+
+pub new-gate-requires : goal.new-gate-requires
+new-gate-requires g c =
+    let inv = c.loop-desk.invariant in
+    let desk = c.in-Some.desk in
+    subst (g.G.Gate.IsAt c.in-Some-next.gate) (sym c.marker.ensures.marker)
+    (first_for g.G.Gate.IsAt c.loop-desk.gates.rest.items c.next-in-loop-desk.new.self.rest.items c.loop-desk.desk-iterator.rest.items c.next.new.self.rest.items c.in-Some-next.gate desk
+    c.in-Some-next.ensures.items c.in-Some.ensures.steps.0 inv.for_desks)
 
 pub loop-desk-preserved : goal.loop-desk-preserved
 loop-desk-preserved g c =
@@ -42,6 +51,10 @@ loop-desk-preserved g c =
           both_shorter c.loop-desk.desk-iterator.rest.items rest c.loop-desk.gates.rest.items
           c.next-in-loop-desk.new.self.rest.items desk c.in-Some-next.gate given
           c.in-Some-next.ensures.items inv.gates_left;
+      for_desks =
+          others_for g.G.Gate.IsAt c.loop-desk.gates.rest.items
+          c.next-in-loop-desk.new.self.rest.items c.loop-desk.desk-iterator.rest.items rest
+          c.in-Some-next.gate desk c.in-Some-next.ensures.items given inv.for_desks;
       calls =
           cut.calls
           ∙ (ap (λ t. with_fewer_parts t 1) inv.calls

@@ -1,5 +1,6 @@
 use Rattle.std.proofs.Common.{◌≡◌, ◌++◌, All, length, map}
 use Rattle.fair_queue.specs.Tickets.{with_fewer_parts}
+use Rattle.xbar_markers.specs.Gates.{AreForDesks}
 use Rattle.xbar_markers.specs.ThreadStates.{AreStatesOf, IsThreadState, desk_at}
 use Rattle.xbar_markers.specs.Work.{IsReady}
 use Rattle.xbar_markers.proofs.thread_state.open_states.Given as goal
@@ -8,6 +9,7 @@ abbrev pub invariant-loop-desk : goal.invariant-loop-desk
 invariant-loop-desk g l = record {
   whole : l.yielded ++ l.desk-iterator.rest.items ≡ l.fn.desks.items;
   gates_left : length l.gates.rest.items ≡ length l.desk-iterator.rest.items;
+  for_desks : AreForDesks g.G.Gate.IsAt l.gates.rest.items l.desk-iterator.rest.items;
   calls : l.whole.calls ≡ with_fewer_parts l.fn.whole.calls (length l.yielded);
   tasks : l.whole.tasks ≡ with_fewer_parts l.fn.whole.tasks (length l.yielded);
   lists : (l.whole.kept ≡ l.fn.whole.kept) × (l.whole.ended ≡ l.fn.whole.ended);

@@ -5,9 +5,9 @@ use Rattle.xbar_markers.proofs.completing.Worker+Desk+G.complete_all.Goals as go
 
 pub loop-init : goal.loop-init
 loop-init g c = record {
-  may = c.requires.may;
-  ready = c.requires.ready;
-  kind = c.requires.kind_is;
+  may = c.requires.serve.may;
+  ready = c.requires.serve.ready;
+  kind = c.requires.serve.kind_is;
   tickets = tickets_same c.args.share.now;
   same_kept = refl;
   same_calls = refl;

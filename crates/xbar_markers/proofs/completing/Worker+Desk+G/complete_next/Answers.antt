@@ -1,6 +1,6 @@
 use Rattle.std.proofs.Common.{◌≡◌, ◌∙◌, Some, sym, refl, ap}
 use Rattle.xbar_markers.specs.Calls.{HasDialTone}
-use Rattle.xbar_markers.specs.declared.task.Task.{Task}
+use Rattle.xbar_markers.specs.Tasks.{Task}
 use Rattle.xbar_markers.specs.declared.task.Task.TheVariants as task
 use Rattle.xbar_markers.proofs.ServedSteps.{HasTakenTask, stop_taken, task_completed}
 use Rattle.xbar_markers.proofs.TakenTasks.{none_taken, one_sound, one_taken}
@@ -26,7 +26,7 @@ returns-in-Some-Stop-clause-served g c =
       | then-wait w ↦ one_taken share c.if-wait.share w.take-task.new.ticket w.take-task.result task.Stop w.share-is (sym w.task-is ∙ is) w.take-task.ensures.taken
       | else-wait w ↦ one_taken share c.if-wait.share w.try_take-task.new.ticket w.try_take-task.result task.Stop w.share-is (sym w.task-is ∙ is) w.try_take-task.ensures.taken
     ] in
-    stop_taken d share c.if-wait.share taken c.requires.ready.idle
+    stop_taken d share c.if-wait.share taken c.requires.serve.ready.idle
 
 pub returns-in_ok-put_behind-in-Some-Complete-clause-served :
     goal.returns-in_ok-put_behind-in-Some-Complete-clause-served

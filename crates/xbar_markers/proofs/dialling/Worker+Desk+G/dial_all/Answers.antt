@@ -4,9 +4,9 @@ use Rattle.xbar_markers.proofs.dialling.Worker+Desk+G.dial_all.Goals as goal
 
 pub loop-init : goal.loop-init
 loop-init g c = record {
-  may = c.requires.may;
-  ready = c.requires.ready;
-  kind = c.requires.kind_is;
+  may = c.requires.serve.may;
+  ready = c.requires.serve.ready;
+  kind = c.requires.serve.kind_is;
   tickets = tickets_same c.args.share.now;
   served = served_none c.args.self.now.desk c.args.share.now;
 }

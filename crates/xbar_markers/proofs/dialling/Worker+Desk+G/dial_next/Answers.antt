@@ -18,7 +18,7 @@ returns-in_ok-pass_on-clause-served g c =
     dialled_passed c.args.self.now.desk c.dial-call.new.self.desk c.in-Some.call c.dial-call.result c.args.share.now record c.args.share.now { calls = c.try_take.new.ticket } c.pass_on.new.self
     record { calls = c.in-Some.ensures.taken; tasks = refl; kept = refl; ended = refl }
     c.in_ok-pass_on.ensures.passed c.dial-call.ensures.call tone
-    (done_worked c.dial-call.ensures.done (rw c.requires.kind_is refl))
+    (done_worked c.dial-call.ensures.done (rw c.requires.serve.kind_is refl))
 
 pub returns-in_ok-put_behind-clause-served : goal.returns-in_ok-put_behind-clause-served
 returns-in_ok-put_behind-clause-served g c =
@@ -27,4 +27,4 @@ returns-in_ok-put_behind-clause-served g c =
     record { calls = refl; tasks = refl; kept = refl; ended = c.in_ok-put_behind.ensures ∙ ap (λ (call : CallRecords). c.args.share.now.ended.items ++ call ∷ []) c.into_records.ensures }
     c.dial-call.ensures.call c.dial-call.ensures.dialled
     (subst (λ (call : CallRecords). is_dial_tone call.dial.reply.end ≡ false) c.call.view_is (not_tone c.call.inside.dial.reply.end c.in_default-end.not-DialTone))
-    (done_worked c.dial-call.ensures.done (rw c.requires.kind_is refl))
+    (done_worked c.dial-call.ensures.done (rw c.requires.serve.kind_is refl))
