@@ -212,10 +212,14 @@ class Browser(ABC):
             raise BrowserError(f"waited {seconds} seconds in vain for: {' '.join(javascript.split())[:200]}")
         return found
 
-    def downloaded(self, act, seconds=20):
-        """Does `act`, waits for the file that the page saves, and gives its name and bytes."""
+    def forget_downloads(self):
+        """Removes what pages have saved."""
         for name in os.listdir(self.downloads):
             os.remove(os.path.join(self.downloads, name))
+
+    def downloaded(self, act, seconds=20):
+        """Does `act`, waits for the file that the page saves, and gives its name and bytes."""
+        self.forget_downloads()
         act()
         end = time.monotonic() + seconds
         while time.monotonic() < end:

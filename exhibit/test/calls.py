@@ -208,6 +208,7 @@ def no_answer(test):
     page.automatic(False)
     page.lift("0001")
     page.finish()
+    browser.forget_downloads()
     for answer in (None, {"status": 5, "text": ""}, {"status": 4, "text": "FAULT,U1,1\n"}):
         browser.run(ENGINE_GIVES, answer)
         page.press("#audit")
