@@ -24,8 +24,9 @@ def loaded():
 RUN = loaded()
 
 
-def chosen(only="", untimed=False, pictures=None):
-    return [it.name for it in RUN.chosen(argparse.Namespace(only=only, untimed=untimed, pictures=pictures))]
+def chosen(only="", left_out="", untimed=False, pictures=None):
+    given = argparse.Namespace(only=only, left_out=left_out, untimed=untimed, pictures=pictures)
+    return [it.name for it in RUN.chosen(given)]
 
 
 class Choice(unittest.TestCase):
@@ -35,6 +36,13 @@ class Choice(unittest.TestCase):
         self.assertEqual(chosen(untimed=True), [name for name in all_of_them if name not in ("k1", "k2")])
         self.assertEqual((chosen("k"), chosen("k", untimed=True)), (["k1", "k2"], []))
         self.assertEqual((chosen("f2,g"), chosen("f2,g", untimed=True)), (["f2", "g"], ["f2", "g"]))
+
+    def test_the_rest(self):
+        """What --only and --except choose by the same names are all scenarios, each once."""
+        for names in ("a", "f2,g", "b,j", "nothing"):
+            with self.subTest(names):
+                self.assertEqual(sorted(chosen(names) + chosen(left_out=names)), sorted(chosen()))
+        self.assertEqual(chosen("b", left_out="b2,b4"), ["b1", "b3", "b5"])
 
     def test_all_of_the_module_timed_are(self):
         own = [it for it in RUN.scenario.ALL if it.act.__module__ == "timed"]

@@ -4,13 +4,16 @@ A script ends with a line that says how many of its checks passed and failed. On
 after its time counts as failed. What a machine lacks is skipped, with its reason.
 """
 
+import contextlib
 import importlib.util
 import os
 import re
 import shutil
 import signal
 import subprocess
+import threading
 import time
+from concurrent.futures import FIRST_COMPLETED, ThreadPoolExecutor, wait
 from dataclasses import dataclass, field
 from typing import NamedTuple
 
@@ -74,7 +77,7 @@ def by_status(lines):
 class Step:
     """A build or a script: its words, in which {program} is the program's path, and {output of NAME} that of the file
     with what the step NAME printed; what it can't do without; what only a part of it needs, with what is left out then;
-    the steps that it stands on; how its output is read; its time."""
+    the steps that it stands on; how its output is read; its time; whether nothing may run beside it."""
 
     name: str
     words: list
@@ -83,6 +86,7 @@ class Step:
     after: list = field(default_factory=list)
     reads: object = by_closing_line
     minutes: float = 15
+    alone: bool = False
 
 
 def has(name):
@@ -102,12 +106,15 @@ def ending(status):
 
 
 class Run:
-    """A run of a table: `folder` gets each step's output, `root` is where the steps are run."""
+    """A run of a table: `folder` gets each step's output, `root` is where the steps are run. Steps may be done by several
+    threads: what one of them tells comes in one piece."""
 
     def __init__(self, root, folder, program, say=print):
         self.root, self.folder, self.program, self.say = root, folder, program, say
         self.sum = Count()
         self.ended = {}  # of each step that was done: passed, failed or skipped
+        self.lock = threading.Lock()
+        self.processes, self.is_stopped = set(), False
 
     def add(self, count):
         self.sum = Count(*map(sum, zip(self.sum, count)))
@@ -145,23 +152,39 @@ class Run:
         it = it.replace("{program}", self.program)
         return re.sub(r"\{output of (.*?)\}", lambda found: self.log(found[1]), it)
 
+    @contextlib.contextmanager
+    def started(self, step, log):
+        """A step's process, which is killed if it hasn't ended."""
+        with self.lock:
+            if self.is_stopped:
+                raise InterruptedError(None, "the run is stopped")
+            running = subprocess.Popen([self.word(it) for it in step.words], cwd=self.root, stdin=subprocess.DEVNULL,
+                                       stdout=log, stderr=subprocess.STDOUT, start_new_session=True)
+            self.processes.add(running)
+        try:
+            yield running
+        finally:
+            with self.lock:
+                self.processes.discard(running)
+            kill(running)
+
     def process(self, step):
         """Runs a step, its output in its log, and gives how it ended: None, or words."""
-        words = [self.word(it) for it in step.words]
         with open(self.log(step.name), "wb") as log:
             try:
-                running = subprocess.Popen(words, cwd=self.root, stdin=subprocess.DEVNULL, stdout=log,
-                                           stderr=subprocess.STDOUT, start_new_session=True)
+                with self.started(step, log) as running:
+                    return ending(running.wait(step.minutes * 60 if step.minutes else None))
             except OSError as error:
-                return f"{words[0]} doesn't start: {error.strerror}"
-            try:
-                return ending(running.wait(step.minutes * 60 if step.minutes else None))
+                return f"{step.words[0]} doesn't start: {error.strerror}"
             except subprocess.TimeoutExpired:
                 return f"not done after {step.minutes} minutes"
-            finally:
-                if running.poll() is None:
-                    os.killpg(running.pid, signal.SIGKILL)
-                    running.wait()
+
+    def stop(self):
+        """Kills what runs, and lets nothing else begin."""
+        with self.lock:
+            self.is_stopped = True
+            for running in self.processes:
+                kill(running)
 
     def lines(self, step):
         with open(self.log(step.name), encoding="utf-8", errors="replace") as log:
@@ -178,11 +201,17 @@ class Run:
 
     def do(self, step):
         """Does one step, if it can be done, and tells what came of it."""
-        if not self.may_run(step):
-            return
+        with self.lock:
+            if not self.may_run(step):
+                return
         begun = time.monotonic()
         ended = self.process(step)
         lines = self.lines(step)
+        with self.lock:
+            self.tell(step, ended, lines, time.monotonic() - begun)
+
+    def tell(self, step, ended, lines, seconds):
+        """Adds what a step counts, and tells it, with what was skipped and what is wrong."""
         count, wrong = self.judge(step, ended, lines)
         self.ended[step.name] = "failed" if count.failed else "passed"
         for line in lines:
@@ -197,7 +226,15 @@ class Run:
             self.say(*(f"    {line[:300]}" for line in lines[-SHOWN_LINES:]), sep="\n")
         said = f"FAILED: {wrong}" if wrong else str(count)
         place = f"; all of its output is in {self.log(step.name)}" if count.failed else ""
-        self.say(f"{step.name}: {said} ({time.monotonic() - begun:.0f} s){place}")
+        self.say(f"{step.name}: {said} ({seconds:.0f} s){place}")
+
+
+def kill(running):
+    """Kills a process and what it has started, if it hasn't ended."""
+    if running.poll() is None:
+        with contextlib.suppress(ProcessLookupError):
+            os.killpg(running.pid, signal.SIGKILL)
+        running.wait()
 
 
 def picked(table, words, left_out=()):
@@ -218,9 +255,34 @@ def picked(table, words, left_out=()):
     return [step for step in table if step.name in wanted]
 
 
-def run_table(table, run):
-    """Runs all steps in order, prints the last line, and gives the exit status."""
-    for step in table:
-        run.do(step)
+def next_step(waiting, running):
+    """The first step that waits for no other and may run beside those that run, or None."""
+    if any(step.alone for step in running):
+        return None
+    unfinished = {step.name for step in (*waiting, *running)}
+    return next((step for step in waiting
+                 if unfinished.isdisjoint(step.after) and not (step.alone and running)), None)
+
+
+def run_steps(table, run, at_once):
+    """Runs all steps, so many at once, each after those that it stands on."""
+    waiting, running = list(table), {}
+    with ThreadPoolExecutor(at_once) as threads:
+        try:
+            while waiting or running:
+                while len(running) < at_once and (step := next_step(waiting, running.values())):
+                    waiting.remove(step)
+                    running[threads.submit(run.do, step)] = step
+                for done in wait(running, return_when=FIRST_COMPLETED).done:
+                    del running[done]
+                    done.result()
+        except BaseException:
+            run.stop()
+            raise
+
+
+def run_table(table, run, at_once=1):
+    """Runs all steps, prints the last line, and gives the exit status."""
+    run_steps(table, run, at_once)
     run.say(str(run.sum))
     return int(run.sum.failed > 0)

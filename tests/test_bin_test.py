@@ -4,10 +4,13 @@
 import importlib.machinery
 import importlib.util
 import os
+import re
+import signal
 import stat
 import subprocess
 import sys
 import tempfile
+import time
 import unittest
 
 HERE = os.path.dirname(os.path.realpath(__file__))
@@ -25,18 +28,22 @@ def shell(name, text, **how):
 GOOD = shell("good", "echo something; echo '3 passed, 0 failed'")
 
 
-class Tables(unittest.TestCase):
+class OnTables(unittest.TestCase):
+    """Runs tables in a folder of their own."""
+
     def setUp(self):
         folder = tempfile.TemporaryDirectory()
         self.addCleanup(folder.cleanup)
         self.folder = folder.name
         self.said = []
 
-    def run_steps(self, *table, program="/the/program"):
+    def run_steps(self, *table, program="/the/program", at_once=1):
         """The status and the last line of a run; all lines are in `said`."""
         run = Run(self.folder, self.folder, program, lambda *text, sep=" ": self.said.extend(sep.join(text).split("\n")))
-        return run_table(table, run), self.said[-1]
+        return run_table(table, run, at_once), self.said[-1]
 
+
+class Tables(OnTables):
     def test_passing(self):
         self.assertEqual(self.run_steps(GOOD, shell("other", "echo '4 passed, 0 failed'")), (0, "7 passed, 0 failed"))
 
@@ -125,6 +132,92 @@ class Tables(unittest.TestCase):
         self.run_steps(GOOD)
         with open(os.path.join(self.folder, "good.log"), encoding="utf-8") as it:
             self.assertEqual(it.read(), "something\n3 passed, 0 failed\n")
+
+
+class AtOnce(OnTables):
+    """Several steps at once. A step that marks itself leaves a file while it runs and says who else does."""
+
+    def marked(self, name, **how):
+        text = f"touch {name}.now; sleep 0.2; ls *.now; rm {name}.now; echo '1 passed, 0 failed'"
+        return shell(name, text, **how)
+
+    def beside(self, name):
+        """Who ran while this step did, itself included."""
+        with open(os.path.join(self.folder, name + ".log"), encoding="utf-8") as it:
+            return {line.removesuffix(".now\n") for line in it if line.endswith(".now\n")}
+
+    def test_side_by_side(self):
+        self.assertEqual(self.run_steps(*map(self.marked, "abc"), at_once=2), (0, "3 passed, 0 failed"))
+        self.assertEqual(self.beside("a"), {"a", "b"})
+        self.assertLessEqual(len(self.beside("b")), 2)
+
+    def test_one_at_once(self):
+        self.run_steps(*map(self.marked, "abc"), at_once=1)
+        self.assertEqual([self.beside(name) for name in "abc"], [{"a"}, {"b"}, {"c"}])
+
+    def test_alone(self):
+        for place in range(3):
+            with self.subTest(place):
+                table = [self.marked(name, alone=(name == "abc"[place])) for name in "abc"]
+                self.assertEqual(self.run_steps(*table, at_once=3), (0, "3 passed, 0 failed"))
+                self.assertEqual(self.beside("abc"[place]), {"abc"[place]})
+
+    def test_after(self):
+        """A step doesn't begin before what it stands on has ended, and holds up nobody else."""
+        slow = shell("slow", "sleep 0.3; touch done; echo '1 passed, 0 failed'")
+        late = shell("late", "test -e done && echo '1 passed, 0 failed'", after=["slow"])
+        quick = shell("quick", "test ! -e done && echo '1 passed, 0 failed'")
+        self.assertEqual(self.run_steps(slow, late, quick, at_once=3), (0, "3 passed, 0 failed"))
+
+    def test_after_a_failure(self):
+        failing = shell("failing", "exit 1", reads=by_status)
+        table = failing, shell("on it", "echo '1 passed, 0 failed'", after=["failing"]), GOOD
+        self.assertEqual(self.run_steps(*table, at_once=3), (1, "3 passed, 2 failed"))
+
+    def test_told_in_one_piece(self):
+        table = [shell(f"step{it}", f"for k in 1 2 3; do echo of{it}; done; echo '0 passed, 1 failed'")
+                 for it in range(6)]
+        self.run_steps(*table, at_once=6)
+        for place, line in enumerate(self.said):
+            if found := re.match(r"step(\d): ", line):
+                self.assertEqual(self.said[place - 4:place - 1], [f"    of{found[1]}"] * 3)
+
+    def test_stopped(self):
+        """Whoever stops a run stops all that it has started."""
+        text = ("import signal, sys\nsys.path.insert(0, sys.argv[1])\nfrom table import Run, Step, run_table\n"
+                "signal.signal(signal.SIGTERM, lambda *_: sys.exit(1))\n"
+                "steps = [Step(it, ['sh', '-c', f'sleep 60 & echo $! >{it}; wait']) for it in 'abc']\n"
+                "run_table(steps, Run(sys.argv[2], sys.argv[2], ''), 2)\n")
+        with subprocess.Popen([sys.executable, "-c", text, HERE, self.folder], stdout=subprocess.DEVNULL) as running:
+            sleepers = [self.number_in(name) for name in "ab"]
+            running.send_signal(signal.SIGTERM)
+            self.assertEqual(running.wait(20), 1)
+        for number in sleepers:
+            self.assertFalse(self.is_alive(number))
+        self.assertFalse(os.path.exists(os.path.join(self.folder, "c")))
+
+    def number_in(self, name):
+        """The number in a file, as soon as it's there."""
+        end = time.monotonic() + 20
+        while time.monotonic() < end:
+            try:
+                with open(os.path.join(self.folder, name), encoding="utf-8") as it:
+                    return int(it.read())
+            except (OSError, ValueError):
+                time.sleep(0.02)
+        raise AssertionError(f"the step {name} doesn't begin")
+
+    def is_alive(self, number):
+        """Whether a process runs, after some time in which it may end."""
+        for _ in range(100):
+            try:
+                with open(f"/proc/{number}/stat", encoding="utf-8") as it:
+                    if it.read().rsplit(")")[-1].split()[0] == "Z":
+                        return False
+            except OSError:
+                return False
+            time.sleep(0.02)
+        return True
 
 
 class Readings(unittest.TestCase):

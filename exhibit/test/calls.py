@@ -65,7 +65,7 @@ class Order:
 @scenario("a", "two calls, both markers stepped in random orders with undos, as the program has it")
 def random_orders(test):
     page, undos = test.page, 0
-    for seed in range(test.options.orders):
+    for seed in range(test.options.seed, test.options.seed + test.options.orders):
         page.open()
         page.automatic(False)
         order = Order(test, seed)
