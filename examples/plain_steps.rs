@@ -4,6 +4,9 @@
 //!
 //!     rustc --edition 2021 -O -o /tmp/plain_steps examples/plain_steps.rs
 //!     /tmp/plain_steps lone CALLS            one marker, one call after another
+//!     /tmp/plain_steps whole JOBS THREADS    THREADS threads that dial and release, each from a line of its own, with
+//!                                            one lock around each job: nobody else is at the words, so no
+//!                                            connector is seized
 //!     /tmp/plain_steps live CALLS MARKERS    MARKERS threads that dial and as many that complete calls,
 //!                                            with three calls under way at once at most; timed
 //!                                            from their queueing to their records in turn order
@@ -167,6 +170,8 @@ fn find(word: u64, width: usize, value: u64) -> Option<usize> {
 
 /// A word by itself, or one that threads share.
 trait Word {
+    /// Whether others may change the word during a job, so that its connector has to be seized.
+    const SHARED: bool = true;
     fn load(&self) -> u64;
     fn or(&self, bits: u64) -> u64;
     fn and(&self, mask: u64);
@@ -215,6 +220,28 @@ impl Word for Cell<u64> {
     }
 }
 
+/// A word that nobody else is at during a job.
+struct Apart(Cell<u64>);
+
+impl Word for Apart {
+    const SHARED: bool = false;
+    fn load(&self) -> u64 {
+        self.0.load()
+    }
+    fn or(&self, bits: u64) -> u64 {
+        self.0.or(bits)
+    }
+    fn and(&self, mask: u64) {
+        self.0.and(mask);
+    }
+    fn add_one(&self) -> u64 {
+        self.0.add_one()
+    }
+    fn exchange(&self, expected: u64, new: u64) -> Result<u64, u64> {
+        self.0.exchange(expected, new)
+    }
+}
+
 struct Denied;
 
 /// A marker's attempt: what it holds, on these words.
@@ -247,7 +274,7 @@ impl<W: Word> Attempt<'_, W> {
     }
 
     fn seize(&mut self, conn: Conn) -> Result<(), Denied> {
-        if self.held.contains(&conn) {
+        if !W::SHARED || self.held.contains(&conn) {
             return Ok(());
         }
         let bit = 1 << (8 + self.marker);
@@ -270,6 +297,9 @@ impl<W: Word> Attempt<'_, W> {
     }
 
     fn test(&mut self, word: usize) -> u64 {
+        if !W::SHARED {
+            return self.words[word].load();
+        }
         if let Some((_, value)) = self.read.iter().find(|(read, _)| *read == word) {
             return *value;
         }
@@ -505,8 +535,8 @@ fn attempt<W: Word>(words: &[W], marker: u64) -> Attempt<'_, W> {
     Attempt {
         words,
         marker,
-        held: Vec::with_capacity(19),
-        read: Vec::with_capacity(42),
+        held: Vec::with_capacity(if W::SHARED { 19 } else { 0 }),
+        read: Vec::with_capacity(if W::SHARED { 42 } else { 0 }),
         steps: 0,
     }
 }
@@ -718,6 +748,31 @@ fn text_of_calls(rows: &str, count: u64) -> Option<Vec<u8>> {
     Some(out)
 }
 
+/// Has threads dial and release `jobs` times each, from a line of its own, each job whole under one lock.
+fn whole(jobs: u32, threads: u64) {
+    let plan = example();
+    let words: Mutex<Vec<Apart>> = Mutex::new((0..453).map(|_| Apart(Cell::new(0))).collect());
+    let start = Instant::now();
+    thread::scope(|scope| {
+        for marker in 0..threads {
+            let (plan, words) = (&plan, &words);
+            let line = Line {
+                frame: marker as usize % 10,
+                switch: 0,
+                x: 0,
+            };
+            scope.spawn(move || {
+                for job in 0..jobs {
+                    let words = words.lock().unwrap();
+                    attempt(&words, marker).do_job(plan, (job % 2 * 2) as u8, line, job);
+                }
+            });
+        }
+    });
+    let time = start.elapsed().as_nanos() as u64;
+    println!("{threads} threads, a lock for each job: {} ns a job", time / u64::from(jobs));
+}
+
 fn lone(calls: usize) {
     let plan = example();
     let words: Vec<AtomicU64> = (0..453).map(|_| AtomicU64::new(0)).collect();
@@ -844,9 +899,10 @@ fn main() {
     let number = |at: usize, or: usize| words.get(at).and_then(|w| w.parse().ok()).unwrap_or(or);
     match words.get(1).map(String::as_str) {
         Some("lone") => lone(number(2, 10_000)),
+        Some("whole") => whole(number(2, 100_000) as u32, number(3, 1) as u64),
         Some("live") => live(number(2, 10_000), number(3, 1) as u64, number(4, 3) as u64),
         Some("calls") => answer(|rows| text_of_calls(rows, number(2, 1) as u64)).unwrap(),
         Some("replay") => answer(replay).unwrap(),
-        _ => println!("usage: plain_steps lone | live | calls | replay, as its first lines say"),
+        _ => println!("usage: plain_steps lone | whole | live | calls | replay, as its first lines say"),
     }
 }

@@ -2,6 +2,7 @@
 use Rattle.std.proofs.Common.{◌≡◌, ℕ, ◌+◌, ◌-◌, ◌/◌, ◌^◌, ◌<◌, ◌≤◌, zero, suc, Bool, true, false, List, [], ◌∷◌, ◌++◌, length, length-set, slice_index, slice_set, inl, inr, refl, sym, ◌∙◌, ap, subst, arith}
 use Rattle.std.specs.Prelude.{◌==◌, nat_le, if◌then◌else◌, Err, replicate}
 use Rattle.std.proofs.lemmas.Bool.{eqb-true, eqb-false, ltb-true, leb-true, and_parts}
+use Rattle.std.proofs.lemmas.List.{length-append, length-replicate}
 use Rattle.turns.specs.Among.{IsIn}
 use Rattle.turns.specs.Bounds.{AreBounded, AllEndsHave}
 use Rattle.turns.specs.Operations.{FitsWord, applied}
@@ -12,16 +13,17 @@ use Rattle.turns.specs.System.{AreWords, DecidesAs, DecidesUnder, IsSystem, IsUn
 use Rattle.turns.specs.declared.operation.Operation.{Operation}
 use Rattle.turns.specs.declared.operation.Operation.TheVariants.{Add, Sub}
 use Rattle.turns.specs.declared.wanted.Wanted.TheVariants.{Seize}
-use Rattle.turns.proofs.OwnSystem.{added_is, decides_if, either_has, index_other, index_same, makes_more, makes_none, same_number, subtracted_is, under_its_lock, zeros_below}
+use Rattle.turns.proofs.OwnSystem.{added_is, decides_if, either_has, index_other, index_same, makes_more, makes_none, same_number, subtracted_is, under_its_lock, zero_at, zeros_below}
 use Rattle.turns.proofs.Preferring.{preferring_is, zero_unused}
 use Rattle.bank.specs.Bank.{Balances, with_balance, credited, debited, fits, may_move, done_if, whole}
-use Rattle.bank.specs.System.{Effect, Shows, effects_of, or_refuse, balance_of, script, first_account, IsJob, opening_words, bank}
-use Rattle.bank.specs.declared.accounts.TheConstants.{ACCOUNTS, SHARD_SIZE, WORDS}
+use Rattle.bank.specs.System.{Effect, Shows, effects_of, or_refuse, balance_of, script, first_account, IsJob, accounts, opening_words, bank}
 use Rattle.bank.specs.declared.decision.Decision.{Decision}
 use Rattle.bank.specs.declared.decision.Decision.TheVariants.{Replies, Changes, Moves}
 use Rattle.bank.specs.declared.job.Job.{Job}
 use Rattle.bank.specs.declared.job.Job.TheVariants.{Deposit, Withdraw, Transfer, Balance}
 use Rattle.bank.specs.declared.job.Reply.TheVariants.{Done, Refused, Has}
+use Rattle.bank.specs.declared.opening.Opening.{Opening}
+use Rattle.bank.specs.declared.opening.TheConstants.{SHARD_SIZE}
 
 -- the balances in the opening words
 opening_at : (count value n : ℕ) (rest : List ℕ) → n < count → value ≡ slice_index (replicate count value ++ rest) n
@@ -29,23 +31,28 @@ opening_at zero value n rest below = absurd (omega arith)
 opening_at (suc count) value zero rest below = refl
 opening_at (suc count) value (suc n) rest below = opening_at count value n rest (omega arith)
 
+past_opening : (count value n k : ℕ) (rest : List ℕ) → n ≡ count + k → slice_index (replicate count value ++ rest) n ≡ slice_index rest k
+past_opening zero value n k rest e = ap (slice_index rest) (omega (arith, e))
+past_opening (suc count) value zero k rest e = absurd (omega (arith, e))
+past_opening (suc count) value (suc n) k rest e = past_opening count value n k rest (omega (arith, e))
+
 opening_below : (count value : ℕ) (rest : List ℕ) → value < 2 ^ 64 → AreWords rest → AreWords (replicate count value ++ rest)
 opening_below zero value rest small are n = are n
 opening_below (suc count) value rest small are zero = small
 opening_below (suc count) value rest small are (suc n) = opening_below count value rest small are n
 
-module _ (opening : ℕ) where
+module _ (opening : Opening) where
   -- effects that may be made with these locks held
-  word_under : (held : List ℕ) (account : ℕ) → account < ACCOUNTS → IsIn (account / SHARD_SIZE) held → IsUnder (bank opening) held account
+  word_under : (held : List ℕ) (account : ℕ) → account < accounts opening → IsIn (account / SHARD_SIZE) held → IsUnder (bank opening) held account
   word_under held account below own = under_its_lock (bank opening) held (account / SHARD_SIZE) account (refl, below) own
 
-  may_change : (held : List ℕ) (account : ℕ) (operation : Operation) (more : List Effect) → account < ACCOUNTS → IsIn (account / SHARD_SIZE) held → FitsWord operation → MayMake (bank opening) held more → MayMake (bank opening) held ((account, operation) ∷ more)
+  may_change : (held : List ℕ) (account : ℕ) (operation : Operation) (more : List Effect) → account < accounts opening → IsIn (account / SHARD_SIZE) held → FitsWord operation → MayMake (bank opening) held more → MayMake (bank opening) held ((account, operation) ∷ more)
   may_change held account operation more below own fits may = makes_more (bank opening) held (account, operation) more (word_under held account below own) fits may
 
   may_if : (held : List ℕ) (t : Bool) (decision : Decision) → MayMake (bank opening) held (effects_of decision) → MayMake (bank opening) held (effects_of (or_refuse t decision))
   may_if held t decision may = either_has (λ d. MayMake (bank opening) held (effects_of d)) t decision (Replies Refused) (λ is. may) (λ is. makes_none (bank opening) held)
 
-  keeps : (job : Job) → IsJob job → KeepsTo (bank opening) (DecidesUnder (bank opening)) [] (script job)
+  keeps : (job : Job) → IsJob opening job → KeepsTo (bank opening) (DecidesUnder (bank opening)) [] (script job)
   unfolding KeepsTo balance_of ◌>>=◌
   keeps (Deposit a x) low = let held : List ℕ = a / SHARD_SIZE ∷ [] in (omega arith, (word_under held a low (inl refl), λ has below. may_if held (fits (has + x)) (Changes a (Add x)) (may_change held a (Add x) [] low (inl refl) tt (makes_none (bank opening) held))))
   keeps (Withdraw a x) low = let held : List ℕ = a / SHARD_SIZE ∷ [] in (omega arith, (word_under held a low (inl refl), λ has below. may_if held (nat_le x has) (Changes a (Sub x)) (may_change held a (Sub x) [] low (inl refl) tt (makes_none (bank opening) held))))
@@ -64,33 +71,33 @@ module _ (opening : ℕ) where
   firsts (Transfer a b x) = refl
   firsts (Balance a) = refl
 
-  module _ (words : List ℕ) (has : Balances) (long : length words ≡ WORDS) (shows : Shows words has) where
+  module _ (words : List ℕ) (has : Balances) (long : length words ≡ accounts opening + (opening.shards + 1)) (shows : Shows opening words has) where
     -- a balance is set in its word
-    shows_set : (account balance : ℕ) → account < ACCOUNTS → Shows (slice_set words account balance) (with_balance has account balance)
+    shows_set : (account balance : ℕ) → account < accounts opening → Shows opening (slice_set words account balance) (with_balance has account balance)
     shows_set account balance low = record { each = λ a below. at a below (a == account) refl } where
-      at : (a : ℕ) → a < ACCOUNTS → (t : Bool) → (a == account) ≡ t → (if t then balance else has a) ≡ slice_index (slice_set words account balance) a
+      at : (a : ℕ) → a < accounts opening → (t : Bool) → (a == account) ≡ t → (if t then balance else has a) ≡ slice_index (slice_set words account balance) a
       at a below true e = sym (ap (slice_index (slice_set words account balance)) (eqb-true a account e) ∙ index_same words account balance (omega arith))
       at a below false e = shows.each a below ∙ sym (index_other words account a balance (eqb-false a account e))
 
-    shows_changed : (account balance : ℕ) (operation : Operation) → account < ACCOUNTS → applied operation (has account) ≡ balance → Shows (perform (bank opening) words (account, operation)) (with_balance has account balance)
+    shows_changed : (account balance : ℕ) (operation : Operation) → account < accounts opening → applied operation (has account) ≡ balance → Shows opening (perform (bank opening) words (account, operation)) (with_balance has account balance)
     shows_changed account balance operation low is =
-        subst (λ (v : ℕ). Shows (slice_set words account (applied operation v)) (with_balance has account balance)) (shows.each account low)
-        (subst (λ (v : ℕ). Shows (slice_set words account v) (with_balance has account balance)) (sym is) (shows_set account balance low))
+        subst (λ (v : ℕ). Shows opening (slice_set words account (applied operation v)) (with_balance has account balance)) (shows.each account low)
+        (subst (λ (v : ℕ). Shows opening (slice_set words account v) (with_balance has account balance)) (sym is) (shows_set account balance low))
 
     -- a job is refused, or done as it is whole
     done_or_refused : (t : Bool) (after : Balances) (decision : Decision) → (t ≡ true → DecidesAs (bank opening) words (record { state = after; reply = Done }) decision) → DecidesAs (bank opening) words (done_if t has after) (or_refuse t decision)
     unfolding perform_all
     done_or_refused t after decision doing = decides_if (bank opening) words t (record { state = after; reply = Done }) (record { state = has; reply = Refused }) decision (Replies Refused) doing (λ is. record { reply = refl; shows = shows; due = tt })
 
-  module _ (words : List ℕ) (has : Balances) (long : length words ≡ WORDS) (are : AreWords words) (shows : Shows words has) where
+  module _ (words : List ℕ) (has : Balances) (long : length words ≡ accounts opening + (opening.shards + 1)) (are : AreWords words) (shows : Shows opening words has) where
     -- balances fit words
-    small : (a : ℕ) → a < ACCOUNTS → has a < 2 ^ 64
+    small : (a : ℕ) → a < accounts opening → has a < 2 ^ 64
     small a low = omega (arith, shows.each a low, are a)
 
-    debits_as : (a x : ℕ) → a < ACCOUNTS → x ≤ has a → Shows (perform (bank opening) words (a, Sub x)) (debited has a x)
+    debits_as : (a x : ℕ) → a < accounts opening → x ≤ has a → Shows opening (perform (bank opening) words (a, Sub x)) (debited has a x)
     debits_as a x low enough = shows_changed words has long shows a (has a - x) (Sub x) low (subtracted_is (has a) x (small a low) enough)
 
-    moves_as : (a b x : ℕ) → a < ACCOUNTS → b < ACCOUNTS → x ≤ has a → has b + x < 2 ^ 64 → DecidesAs (bank opening) words (record { state = credited (debited has a x) b x; reply = Done }) (Moves a b x)
+    moves_as : (a b x : ℕ) → a < accounts opening → b < accounts opening → x ≤ has a → has b + x < 2 ^ 64 → DecidesAs (bank opening) words (record { state = credited (debited has a x) b x; reply = Done }) (Moves a b x)
     unfolding perform_all
     moves_as a b x low high enough room = record { reply = refl; shows = shows_changed after (debited has a x) (length-set words a now ∙ long) (debits_as a x low enough) b (debited has a x b + x) (Add x) high (added_is (debited has a x b) x more); due = (tt, (tt, tt)) } where
       now : ℕ
@@ -105,7 +112,7 @@ module _ (opening : ℕ) where
         at true e = let same : has b ≡ has a = ap has (eqb-true b a e) in omega arith
         at false e = room
 
-    decides : (job : Job) → IsJob job → DecidesAs (bank opening) words (whole has job) (run words (script job))
+    decides : (job : Job) → IsJob opening job → DecidesAs (bank opening) words (whole has job) (run words (script job))
     unfolding run perform_all balance_of ◌>>=◌
     decides (Deposit a x) low = subst (λ (n : ℕ). DecidesAs (bank opening) words (whole has (Deposit a x)) (or_refuse (fits (n + x)) (Changes a (Add x)))) (shows.each a low)
         (done_or_refused words has long shows (fits (has a + x)) (credited has a x) (Changes a (Add x)) (λ t.
@@ -121,14 +128,19 @@ module _ (opening : ℕ) where
         moves_as a b x low.0 low.1 (leb-true x (has a) both.0) (ltb-true (has b + x) (2 ^ 64) both.1))))
     decides (Balance a) low = record { reply = ap Has (sym (shows.each a low)); shows = shows; due = tt }
 
-  opens_unused : (shard : ℕ) → shard < 4 → IsUnused preferring (slice_index (opening_words opening) (16 + shard))
-  opens_unused zero below = zero_unused
-  opens_unused (suc zero) below = zero_unused
-  opens_unused (suc (suc zero)) below = zero_unused
-  opens_unused (suc (suc (suc zero))) below = zero_unused
-  opens_unused (suc (suc (suc (suc more)))) below = absurd (omega arith)
+  opens_long : length (opening_words opening) ≡ accounts opening + (opening.shards + 1)
+  opens_long =
+      let balances : List ℕ = replicate (accounts opening) opening.balance in
+      let zeros : List ℕ = replicate (opening.shards + 1) 0 in
+      omega (arith, length-append balances zeros, length-replicate (accounts opening) opening.balance, length-replicate {A = ℕ} (opening.shards + 1) 0)
 
-  pub bank_system : opening < 2 ^ 64 → IsSystem (bank opening)
+  opens_zero : (n : ℕ) → slice_index (opening_words opening) (accounts opening + n) ≡ 0
+  opens_zero n = past_opening (accounts opening) opening.balance (accounts opening + n) n (replicate (opening.shards + 1) 0) refl ∙ zero_at (opening.shards + 1) n
+
+  opens_unused : (shard : ℕ) → IsUnused preferring (slice_index (opening_words opening) (accounts opening + shard))
+  opens_unused shard = subst (IsUnused preferring) (sym (opens_zero shard)) zero_unused
+
+  pub bank_system : opening.balance < 2 ^ 64 → IsSystem (bank opening)
   bank_system small = record {
     sharing = preferring_is;
     same = same_number;
@@ -148,11 +160,11 @@ module _ (opening : ℕ) where
     decides = λ job words has right long are shows. decides words has long are shows job right;
     looks = λ words other has alike shows. record { each = λ a below. shows.each a below ∙ alike.under a (a / SHARD_SIZE) (refl, below) };
     opens = record {
-      initial_length = refl;
-      are_words = opening_below ACCOUNTS opening (replicate 5 0) small (zeros_below 5);
-      shows = record { each = λ a below. opening_at ACCOUNTS opening a (replicate 5 0) below };
-      unused = opens_unused;
-      no_turn = refl;
+      initial_length = opens_long;
+      are_words = opening_below (accounts opening) opening.balance (replicate (opening.shards + 1) 0) small (zeros_below (opening.shards + 1));
+      shows = record { each = λ a below. opening_at (accounts opening) opening.balance a (replicate (opening.shards + 1) 0) below };
+      unused = λ shard isa. opens_unused shard;
+      no_turn = opens_zero opening.shards;
     };
   }
 

@@ -1,4 +1,4 @@
-use Rattle.std.specs.Prelude.{◌≡◌, ℕ, ◌+◌, ◌/◌, ◌<◌, ◌==◌, nat_le, Bool, List, [], ◌∷◌, ◌++◌, replicate, slice_index, ⊤}
+use Rattle.std.specs.Prelude.{◌≡◌, ℕ, ◌+◌, ◌*◌, ◌/◌, ◌<◌, ◌==◌, nat_le, Bool, List, [], ◌∷◌, ◌++◌, replicate, slice_index, ⊤}
 use Rattle.turns.specs.Deciding.{decide_if}
 use Rattle.turns.specs.Script.{Script, Ends, ◌>>=◌, ◌>>◌, seize, test}
 use Rattle.turns.specs.Sharings.{preferring}
@@ -6,22 +6,31 @@ use Rattle.turns.specs.System.{System, SystemOver, system_of}
 use Rattle.turns.specs.declared.operation.Operation.{Operation}
 use Rattle.turns.specs.declared.operation.Operation.TheVariants.{Add, Sub}
 use Rattle.bank.specs.Bank.{Balances, all_have, fits, may_move, whole}
-use Rattle.bank.specs.declared.accounts.TheConstants.{ACCOUNTS, SHARD_SIZE, WORDS}
 use Rattle.bank.specs.declared.decision.Decision.{Decision}
 use Rattle.bank.specs.declared.decision.Decision.TheVariants.{Replies, Changes, Moves}
 use Rattle.bank.specs.declared.job.Job.{Job}
 use Rattle.bank.specs.declared.job.Job.TheVariants.{Deposit, Withdraw, Transfer, Balance}
 use Rattle.bank.specs.declared.job.Reply.{Reply}
 use Rattle.bank.specs.declared.job.Reply.TheVariants.{Done, Refused, Has}
+use Rattle.bank.specs.declared.opening.Opening.{Opening}
+use Rattle.bank.specs.declared.opening.TheConstants.{SHARD_SIZE}
 
--- words show balances: words 0 to 15 have them. Words 16 to 19 are the shards' locks, and word 20
--- is the turn word.
-pub record Shows (words : List ℕ) (has : Balances) : Type 0 where
-  pub each : (account : ℕ) → account < ACCOUNTS → has account ≡ slice_index words account
+-- how many accounts there are
+abbrev pub accounts : Opening → ℕ
+accounts opening = SHARD_SIZE * opening.shards
+
+-- words show balances: each account's word has its balance. The shards' locks come after the
+-- accounts, and the turn word last.
+pub record Shows (opening : Opening) (words : List ℕ) (has : Balances) : Type 0 where
+  pub each : (account : ℕ) → account < accounts opening → has account ≡ slice_index words account
 
 -- a shard's lock protects the balances of its accounts
-abbrev pub Protects : ℕ → ℕ → Type 0
-Protects shard word = (word / SHARD_SIZE ≡ shard) × (word < ACCOUNTS)
+abbrev pub Protects : Opening → ℕ → ℕ → Type 0
+Protects opening shard word = (word / SHARD_SIZE ≡ shard) × (word < accounts opening)
+
+-- the word of a shard's lock
+abbrev pub lock_word : Opening → ℕ → ℕ
+lock_word opening shard = accounts opening + shard
 
 -- an effect is an operation on an account's balance
 abbrev pub Effect : Type 0
@@ -69,26 +78,26 @@ first_account (Transfer from to amount) = from
 first_account (Balance account) = account
 
 -- the accounts of a job are there
-abbrev pub IsJob : Job → Type 0
-IsJob (Deposit account amount) = account < ACCOUNTS
-IsJob (Withdraw account amount) = account < ACCOUNTS
-IsJob (Transfer from to amount) = (from < ACCOUNTS) × (to < ACCOUNTS)
-IsJob (Balance account) = account < ACCOUNTS
+abbrev pub IsJob : Opening → Job → Type 0
+IsJob opening (Deposit account amount) = account < accounts opening
+IsJob opening (Withdraw account amount) = account < accounts opening
+IsJob opening (Transfer from to amount) = (from < accounts opening) × (to < accounts opening)
+IsJob opening (Balance account) = account < accounts opening
 
--- the initial words of a bank whose accounts open with this balance
-abbrev pub opening_words : ℕ → List ℕ
-opening_words opening = replicate ACCOUNTS opening ++ replicate 5 0
+-- the initial words: no lock is held, and no turn has been taken
+abbrev pub opening_words : Opening → List ℕ
+opening_words opening =
+    replicate (accounts opening) opening.balance ++ replicate (opening.shards + 1) 0
 
--- the bank whose accounts open with this balance, over the types of its locks, jobs, replies and
--- effects
-abbrev pub bank_over : ℕ → SystemOver ℕ Job Reply Effect
+-- the bank that opens so, over the types of its locks, jobs, replies and effects
+abbrev pub bank_over : Opening → SystemOver ℕ Job Reply Effect
 bank_over opening = record {
-  IsJob = IsJob;
+  IsJob = IsJob opening;
   State = Balances;
   whole = whole;
-  opening = all_have opening;
+  opening = all_have opening.balance;
   initial = opening_words opening;
-  IsLock = λ shard. shard < 4;
+  IsLock = λ shard. shard < opening.shards;
   same = λ a b. a == b;
   Decision = Decision;
   first = λ job. first_account job / SHARD_SIZE;
@@ -98,14 +107,14 @@ bank_over opening = record {
   effect_word = λ effect. effect.0;
   operation_of = λ effect. effect.1;
   Due = λ effect value. ⊤;
-  size = WORDS;
-  Protects = Protects;
-  lock_word = λ shard. 16 + shard;
+  size = accounts opening + (opening.shards + 1);
+  Protects = Protects opening;
+  lock_word = lock_word opening;
   sharing = preferring;
-  turn_word = 20;
-  Shows = Shows;
+  turn_word = accounts opening + opening.shards;
+  Shows = Shows opening;
 }
 
 -- this bank as a system
-abbrev pub bank : ℕ → System
+abbrev pub bank : Opening → System
 bank opening = system_of (bank_over opening)

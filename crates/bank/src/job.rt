@@ -1,4 +1,4 @@
-/// A job of the bank, on accounts 0 to 15.
+/// A job of the bank, on accounts by their numbers.
 #[derive(Clone, Copy, Debug, PartialEq, Eq)]
 pub enum Job {
     /// Puts an amount into an account, unless the balance would overflow.

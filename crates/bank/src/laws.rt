@@ -6,19 +6,19 @@ ghost use Rattle.turns.specs.Runs.{Move, AreMoves, run_of};
 ghost use Rattle.turns.specs.World.{Record, World, after};
 ghost use Rattle.bank.specs.Bank.{all_have};
 ghost use Rattle.bank.specs.Sums.{deposited, total, withdrawn};
-ghost use Rattle.bank.specs.System.{Shows, bank};
+ghost use Rattle.bank.specs.System.{Shows, accounts, bank};
 ghost use Rattle.bank.specs.declared.job.Job.{Job};
 ghost use Rattle.bank.specs.declared.job.Reply.{Reply};
+ghost use Rattle.bank.specs.declared.opening.Opening.{Opening};
 
-use crate::accounts::ACCOUNTS;
 use turns::laws::{self, Family};
 
-/// The banks, one for each opening balance, by which the laws of `turns` are called.
+/// The banks, one for each opening, by which the laws of `turns` are called.
 #[derive(Drop)]
 struct Banks {}
 
 impl Family for Banks {
-    ghost Setting = { ℕ };
+    ghost Setting = { Opening };
 
     ghost system = { bank };
 }
@@ -26,8 +26,8 @@ impl Family for Banks {
 /// Whatever up to 48 actors do, and in whatever order they make their steps, each job acts as if
 /// done whole at its turn.
 pub fn every_run_of_the_bank_is_lawful()
-    ensures { (opening count : ℕ) (moves : List (Move Job)) → opening < 2 ^ 64 → count ≤ 48 →
-        AreMoves (bank opening) moves →
+    ensures { (opening : Opening) (count : ℕ) (moves : List (Move Job)) →
+        opening.balance < 2 ^ 64 → count ≤ 48 → AreMoves (bank opening) moves →
         Lawful (bank opening) (run_of (bank opening) count moves) }
 {
     laws::every_run_is_lawful::<Banks>();
@@ -35,8 +35,8 @@ pub fn every_run_of_the_bank_is_lawful()
 
 /// Each reply is that of its job done whole, after the jobs of the turns before it.
 pub fn replies_are_those_of_jobs_done_whole()
-    ensures { (opening : ℕ) (w : World (bank opening)) → Lawful (bank opening) w →
-        IsLegal (bank opening) 0 (all_have opening) w.order }
+    ensures { (opening : Opening) (w : World (bank opening)) → Lawful (bank opening) w →
+        IsLegal (bank opening) 0 (all_have opening.balance) w.order }
 {
     laws::jobs_act_at_their_turns::<Banks>();
 }
@@ -44,20 +44,20 @@ pub fn replies_are_those_of_jobs_done_whole()
 /// The sum of the balances changes by the deposits and withdrawals that were done, and by nothing
 /// else.
 pub fn sums_change_by_deposits_and_withdrawals()
-    ensures { (opening : ℕ) (w : World (bank opening)) → Lawful (bank opening) w →
-        total (after (bank opening) (all_have opening) w.order) ACCOUNTS + withdrawn w.order
-        ≡ ACCOUNTS * opening + deposited w.order }
+    ensures { (opening : Opening) (w : World (bank opening)) → Lawful (bank opening) w →
+        total (after (bank opening) (all_have opening.balance) w.order) (accounts opening)
+        + withdrawn w.order ≡ accounts opening * opening.balance + deposited w.order }
 {
     laws::jobs_act_at_their_turns::<Banks>();
 }
 
 /// If no shard's lock is held, so does the sum of the words.
 pub fn unheld_words_have_the_sum()
-    ensures { (opening : ℕ) (w : World (bank opening)) → opening < 2 ^ 64 →
+    ensures { (opening : Opening) (w : World (bank opening)) → opening.balance < 2 ^ 64 →
         Lawful (bank opening) w →
-        ((shard : ℕ) → shard < 4 → holder_at (bank opening) w.words shard ≡ 0) →
-        total (slice_index w.words) ACCOUNTS + withdrawn w.order
-        ≡ ACCOUNTS * opening + deposited w.order }
+        ((shard : ℕ) → shard < opening.shards → holder_at (bank opening) w.words shard ≡ 0) →
+        total (slice_index w.words) (accounts opening) + withdrawn w.order
+        ≡ accounts opening * opening.balance + deposited w.order }
 {
     laws::jobs_act_at_their_turns::<Banks>();
 }
@@ -65,9 +65,9 @@ pub fn unheld_words_have_the_sum()
 /// So does the sum of words that show the balances after a legal order, like those of a room that
 /// was shut.
 pub fn shown_words_have_the_sum()
-    ensures { (opening : ℕ) (words : List ℕ) (order : List (Record Job Reply)) →
-        IsLegal (bank opening) 0 (all_have opening) order →
-        Shows words (after (bank opening) (all_have opening) order) →
-        total (slice_index words) ACCOUNTS + withdrawn order
-        ≡ ACCOUNTS * opening + deposited order }
+    ensures { (opening : Opening) (words : List ℕ) (order : List (Record Job Reply)) →
+        IsLegal (bank opening) 0 (all_have opening.balance) order →
+        Shows opening words (after (bank opening) (all_have opening.balance) order) →
+        total (slice_index words) (accounts opening) + withdrawn order
+        ≡ accounts opening * opening.balance + deposited order }
 {}

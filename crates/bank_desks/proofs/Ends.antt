@@ -6,21 +6,21 @@ use Rattle.turns.specs.Law.{IsLegal}
 use Rattle.desks.specs.Met.{DeskOf, IsEnded}
 use Rattle.bank.specs.Bank.{all_have}
 use Rattle.bank.specs.Sums.{brought, deposited, taken, total, withdrawn}
-use Rattle.bank.specs.System.{Shows, bank}
-use Rattle.bank.specs.declared.accounts.TheConstants.{ACCOUNTS}
+use Rattle.bank.specs.System.{Shows, accounts, bank}
 use Rattle.bank.specs.declared.job.Job.{Job}
 use Rattle.bank.specs.declared.job.Reply.{Reply}
+use Rattle.bank.specs.declared.opening.Opening.{Opening}
 use Rattle.workers.specs.Workers.{HaveShut}
 use Rattle.bank_desks.specs.Ended.{HasEnded}
 use Rattle.bank_desks.proofs.LogSums.{in_order}
 
 -- words that show the balances after a legal order have its sum
-abbrev pub HaveSum : ℕ → Type 0
+abbrev pub HaveSum : Opening → Type 0
 HaveSum opening =
-    (words : List ℕ) (order : List (Record Job Reply)) → IsLegal (bank opening) 0 (all_have opening) order → Shows words (after (bank opening) (all_have opening) order)
-    → total (slice_index words) ACCOUNTS + withdrawn order ≡ ACCOUNTS * opening + deposited order
+    (words : List ℕ) (order : List (Record Job Reply)) → IsLegal (bank opening) 0 (all_have opening.balance) order → Shows opening words (after (bank opening) (all_have opening.balance) order)
+    → total (slice_index words) (accounts opening) + withdrawn order ≡ accounts opening * opening.balance + deposited order
 
-pub has_ended : {Setting : Type 0} (opening : ℕ) (desks : List (DeskOf (bank opening) Setting)) (logs : List (List (Record Job Reply))) (words : List ℕ) → HaveSum opening → length logs ≡ length desks → HaveShut (bank opening) desks logs words → HasEnded opening logs words
+pub has_ended : {Setting : Type 0} (opening : Opening) (desks : List (DeskOf (bank opening) Setting)) (logs : List (List (Record Job Reply))) (words : List ℕ) → HaveSum opening → length logs ≡ length desks → HaveShut (bank opening) desks logs words → HasEnded opening logs words
 has_ended opening desks logs words sums count shut =
     let closed = shut.closed in
     record {

@@ -11,6 +11,7 @@ use Rattle.bank.specs.Sums.{total}
 use Rattle.bank.specs.System.{bank}
 use Rattle.bank.specs.declared.job.Job.{Job}
 use Rattle.bank.specs.declared.job.Reply.{Reply}
+use Rattle.bank.specs.declared.opening.Opening.{Opening}
 use Rattle.bank.proofs.BankSums.{total_same, total_with}
 use Rattle.bank_desks.specs.Ended.{in_logs}
 
@@ -51,7 +52,7 @@ module _ (amount : List (Record Job Reply) → ℕ) (of_one : Record Job Reply �
       let e : has 0 ≡ amount log = each 0 in
       omega (arith, of_logs logs (λ i. has (suc i)) (λ i. each (suc i)), total_first has (length logs), e)
 
-  pub in_order : (opening : ℕ) (logs : List (List (Record Job Reply))) (order : List (Record Job Reply)) → MakeUp (bank opening) logs order → in_logs amount logs ≡ amount order
+  pub in_order : (opening : Opening) (logs : List (List (Record Job Reply))) (order : List (Record Job Reply)) → MakeUp (bank opening) logs order → in_logs amount logs ≡ amount order
   in_order opening logs order made =
       of_logs logs (λ i. amount (own i order)) (λ i. at i (slice_get logs i) (made.each i)) ∙ by_actors order (length logs) made.theirs where
         at : (i : ℕ) (o : Option (List (Record Job Reply))) → IfSome o (λ log. own i order ≡ log) → IfSome o (λ log. amount (own i order) ≡ amount log)

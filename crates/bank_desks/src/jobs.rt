@@ -1,12 +1,11 @@
-//! The jobs of the bank, as `attempts` and `desk_attempts` take them. The setting is the balance
-//! with which each account opens.
+//! The jobs of the bank, as `attempts` and `desk_attempts` take them. The setting is how the bank
+//! opens.
 
 ghost use Rattle.std.specs.Prelude.{◌≡◌, ◌≤◌, ◌<◌, ◌+◌, ◌^◌, IfSome, slice_get};
 
 use crate::walks::{balance_of, fits, lock_word, or_refuse};
 use attempts::{Scripts, Seen};
-use bank::accounts::{ACCOUNTS, SHARD_SIZE, WORDS};
-use bank::{Decision, Effect, Job, Reply};
+use bank::{Decision, Effect, Job, Opening, Reply, SHARD_SIZE};
 use desk_attempts::{Attempts, OnWords};
 use std::alloc::{AllocError, Global};
 use std::ops::Range;
@@ -23,7 +22,7 @@ impl Scripts<2, 2> for BankScripts {
     ghost use Rattle.attempts.specs.SystemWith.{without_decisions};
     ghost use Rattle.bank.specs.System.{bank_over, effects_of, reply_of};
 
-    type Setting = u64;
+    type Setting = Opening;
 
     type Lock = u32;
 
@@ -43,7 +42,7 @@ impl Scripts<2, 2> for BankScripts {
 
     ghost effects_of = { effects_of };
 
-    ghost IsSetting = { λ opening. opening < 2 ^ 64 };
+    ghost IsSetting = { λ opening. opening.balance < 2 ^ 64 };
 
     fn first(job: &Job) -> u32 {
         match job {
@@ -56,7 +55,7 @@ impl Scripts<2, 2> for BankScripts {
 
     #[tactic(auto, using(attempts::proofs::WalksOnWords::live_bind, attempts::proofs::WalksOnWords::live_end))]
     fn walk(
-        _opening: &u64,
+        opening: &Opening,
         job: &Job,
         _point: &mut (),
         seen: &mut Seen<u32, 2, 2>,
@@ -64,23 +63,23 @@ impl Scripts<2, 2> for BankScripts {
     ) -> Result<Decision, Wanted<u32, usize>> {
         match *job {
             Job::Deposit(account, amount) => {
-                let has = balance_of(seen, words, account)?;
+                let has = balance_of(opening, seen, words, account)?;
                 let put = Decision::Changes(account, Operation::Add(amount));
                 Ok(or_refuse(fits(has, amount), put))
             }
             Job::Withdraw(account, amount) => {
-                let has = balance_of(seen, words, account)?;
+                let has = balance_of(opening, seen, words, account)?;
                 let take = Decision::Changes(account, Operation::Sub(amount));
                 Ok(or_refuse(amount <= has, take))
             }
             Job::Transfer(from, to, amount) => {
-                let left = balance_of(seen, words, from)?;
-                let has = balance_of(seen, words, to)?;
+                let left = balance_of(opening, seen, words, from)?;
+                let has = balance_of(opening, seen, words, to)?;
                 let may_move = amount <= left && fits(has, amount);
                 Ok(or_refuse(may_move, Decision::Moves(from, to, amount)))
             }
             Job::Balance(account) => {
-                let has = balance_of(seen, words, account)?;
+                let has = balance_of(opening, seen, words, account)?;
                 Ok(Decision::Replies(Reply::Has(has)))
             }
         }
@@ -106,42 +105,45 @@ impl Scripts<2, 2> for BankScripts {
 impl OnWords<2, 2> for BankScripts {
     ghost use Rattle.bank.proofs.BankSystem.{bank_bounded, bank_system};
 
-    type Kept = u64;
+    type Kept = Opening;
 
     ghost kept = { λ opening. opening };
 
-    fn keep(opening: &u64) -> u64 {
+    fn keep(opening: &Opening) -> Opening {
         *opening
     }
 
-    fn effect_word(_opening: &u64, effect: Effect) -> usize {
+    fn effect_word(_opening: &Opening, effect: Effect) -> usize {
         effect.0 as usize
     }
 
-    fn effect_operation(_opening: &u64, effect: Effect) -> Operation {
+    fn effect_operation(_opening: &Opening, effect: Effect) -> Operation {
         effect.1
     }
 
-    fn size(_opening: &u64) -> usize {
-        WORDS as usize
+    fn size(opening: &Opening) -> usize {
+        opening.account_count() + opening.shards as usize + 1
     }
 
-    fn initial(alloc: Global, opening: &u64) -> Result<Vec<u64>, AllocError> {
-        let mut words = vec![in alloc; *opening; ACCOUNTS as usize]?;
-        words.extend_from_slice(&[0; 5])?;
+    fn initial(alloc: Global, opening: &Opening) -> Result<Vec<u64>, AllocError> {
+        let mut words = vec![in alloc; opening.balance; opening.account_count()]?;
+        words.resize(Self::size(opening), 0)?;
         Ok(words)
     }
 
-    fn turn_word(_opening: &u64) -> usize {
-        20
+    fn turn_word(opening: &Opening) -> usize {
+        opening.account_count() + opening.shards as usize
     }
 
-    fn lock_word(_opening: &u64, shard: u32) -> usize {
-        lock_word(shard)
+    fn lock_word(opening: &Opening, shard: u32) -> usize {
+        lock_word(opening, shard)
     }
 
-    fn words_under(_opening: &u64, shard: u32) -> Range<usize> {
-        let first = (shard % 4 * SHARD_SIZE) as usize;
+    fn words_under(opening: &Opening, shard: u32) -> Range<usize> {
+        if shard >= opening.shards {
+            return 0..0;
+        }
+        let first = SHARD_SIZE as usize * shard as usize;
         first..first + SHARD_SIZE as usize
     }
 

@@ -9,7 +9,7 @@ ghost use Rattle.turns.specs.Runs.{is_available};
 ghost use Rattle.workers.specs.Workers.{AreAtWork, records};
 
 use crate::jobs::BankJobs;
-use bank::laws;
+use bank::{Opening, laws};
 use desks::Room;
 use std::alloc::Global;
 use workers::{NotShut, Shift, shut_if_idle};
@@ -19,7 +19,7 @@ use workers::{NotShut, Shift, shut_if_idle};
 pub fn shut_bank(
     alloc: Global,
     room: Room<BankJobs>,
-    opening: u64,
+    opening: Opening,
     shifts: Vec<Shift<BankJobs>>,
 ) -> Result<Vec<u64>, NotShut<BankJobs>>
     requires opening { room.setting ≡ opening }

@@ -35,7 +35,7 @@ pub enum Pace {
 
 /// Does the job on the words, and returns the number of steps made. The contract says of the words
 /// only that their number stays the same.
-fn serve(plan: &Plan, words: &mut [u64], job: Job, pace: Pace) -> u32
+pub fn serve(plan: &Plan, words: &mut [u64], job: Job, pace: Pace) -> u32
     requires { length words.old ≡ word_count }
     ensures { length words.new ≡ word_count }
 {

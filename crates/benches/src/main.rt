@@ -5,6 +5,7 @@
 
 ghost use Rattle.std.specs.Prelude.{◌<◌, ◌≤◌, IfSome};
 
+mod bank_threads;
 mod live;
 mod lone_marker;
 mod markers;
@@ -24,11 +25,16 @@ use std::{env, io};
 use xbar_plan::Plan;
 
 const USAGE: &str = "usage: benches [dials | calls | core [MARKERS] | plans | notes [THOUSANDS] \
-                     | slots [THOUSANDS] | threads [THOUSANDS] | live [HUNDREDS]]";
+                     | slots [THOUSANDS] | bank [THOUSANDS] | groups [SHARDS] \
+                     | threads [THOUSANDS] | live [HUNDREDS]]";
 
 /// Does a tenth of each work whose counts are always the same, and prints these counts, by which
 /// two builds of the program can be compared.
-fn print_counts<R: Print>(rt: &R, alloc: Global, plan: &Plan) -> io::Result<()> {
+fn print_counts<R: Print + Threads + Wait + Sync>(
+    rt: &R,
+    alloc: Global,
+    plan: &Plan,
+) -> io::Result<()> {
     for pace in [Pace::Steps, Pace::Runs] {
         for drill in [DIALS, CALLS] {
             drill.print(rt, drill.work(plan, drill.rounds / 10, pace), pace)?;
@@ -38,7 +44,8 @@ fn print_counts<R: Print>(rt: &R, alloc: Global, plan: &Plan) -> io::Result<()> 
     println!(rt; "core: {} jobs in {} steps", done.jobs, done.steps)?;
     let text = plans::full_plan(alloc)?;
     let plans = plans::work(alloc, text.as_str(), plans::READINGS / 10);
-    println!(rt; "plans: {plans} plans")
+    println!(rt; "plans: {plans} plans")?;
+    bank_threads::print_sums(rt, alloc)
 }
 
 /// Reads a number from an argument and clamps it to 1..=`most`. Without an argument the number is
@@ -70,6 +77,8 @@ fn measure<R: Print + Eprint + Clock + Threads + Wait + Sync>(
         Some("plans") => plans::measure(rt, alloc),
         Some("notes") => notes::measure(rt, alloc, count(number, 100, 100_000)?),
         Some("slots") => slot_threads::measure(rt, alloc, count(number, 100, 100_000)?),
+        Some("bank") => bank_threads::measure(rt, alloc, count(number, 100, 100_000)?),
+        Some("groups") => bank_threads::measure_groups(rt, alloc, count(number, 17, 64)? as u8),
         Some("threads") => threads::measure(rt, alloc, plan, count(number, 100, 100_000)?),
         Some("live") => live::measure(rt, alloc, plan, count(number, 3, 1000)?),
         Some(_) => return None,

@@ -1,5 +1,5 @@
-//! Threads that take slots and free them: as desks of the slots, and for comparison the same
-//! number of threads on the same allocator behind one lock.
+//! Threads that take slots and free them: at desks of the slots, and for comparison behind one lock
+//! around both banks, and behind a lock around each.
 
 ghost use Rattle.std.specs.Prelude.{◌≤◌};
 ghost use Rattle.desks.specs.Views.{IsDeskOf};
@@ -8,7 +8,7 @@ ghost use Rattle.slots.specs.System.{IsJob};
 mod banks;
 
 use crate::timing::nanoseconds_each;
-use banks::Banks;
+use banks::{Banks, LockedBanks};
 use desks::Room;
 use slot_desks::SlotJobs;
 use slot_desks::driving::{SlotDesk, SlotRoom};
@@ -86,6 +86,14 @@ impl<R: Wait> Clerk for (&R, &Mutex<Banks>) {
     }
 }
 
+/// A clerk that shares the banks, each behind a lock of its own.
+impl<R: Wait> Clerk for (&R, &LockedBanks) {
+    fn do_job(&mut self, _number: u64, job: Job) -> Option<UpToTwo<u32>> {
+        let (rt, banks) = *self;
+        Some(banks.do_job(rt, job))
+    }
+}
+
 /// The number of jobs that all threads have done.
 fn all_of(done: &[u64]) -> u64 {
     done.iter()
@@ -128,7 +136,25 @@ fn behind_lock<R: Threads + Wait + Sync>(
     Ok(all_of(&done))
 }
 
-/// Measures both, with 1000 * `thousands` jobs for each thread, and prints the times.
+/// Has `count` threads do `jobs` jobs each, under a lock for each bank. Returns the number of jobs
+/// done.
+fn behind_locks<R: Threads + Wait + Sync>(
+    rt: &R,
+    alloc: Global,
+    count: u32,
+    jobs: u32,
+) -> io::Result<u64> {
+    let banks = LockedBanks::default();
+    let done = thread::map_indices(
+        rt,
+        alloc,
+        count as usize,
+        &|_| -> u64 { work(&mut (rt, &banks), jobs) },
+    )?;
+    Ok(all_of(&done))
+}
+
+/// Measures all three, with 1000 * `thousands` jobs for each thread, and prints the times.
 pub fn measure<R: Eprint + Clock + Threads + Wait + Sync>(
     rt: &R,
     alloc: Global,
@@ -146,6 +172,10 @@ pub fn measure<R: Eprint + Clock + Threads + Wait + Sync>(
         let done = behind_lock(rt, alloc, count, jobs)?;
         let job = nanoseconds_each(start.elapsed(rt)?, 1, done);
         eprintln!(rt; "{count} threads behind one lock: {job} ns a job of {done}")?;
+        let start = Instant::now(rt)?;
+        let done = behind_locks(rt, alloc, count, jobs)?;
+        let job = nanoseconds_each(start.elapsed(rt)?, 1, done);
+        eprintln!(rt; "{count} threads, a lock for each bank: {job} ns a job of {done}")?;
     }
     Ok(())
 }

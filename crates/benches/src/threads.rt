@@ -1,6 +1,6 @@
 //! One, two and four desks of the office on threads of their own; and for comparison the same
-//! number of markers of `xbar_core` behind one lock, and of threads that make plain atomic
-//! operations.
+//! number of threads that do whole jobs behind one lock, of markers of `xbar_core` behind one lock
+//! that they acquire for each step, and of threads that make plain atomic operations.
 
 ghost use Rattle.std.specs.Prelude.{◌≤◌};
 ghost use Rattle.xbar_fabric.specs.Views.{IsDeskOf};
@@ -8,6 +8,7 @@ ghost use Rattle.xbar_fabric.specs.Views.{IsDeskOf};
 mod plain;
 mod state;
 
+use crate::lone_marker::{Pace, serve};
 use crate::markers::step;
 use crate::timing::{Tally, nanoseconds_each};
 use state::State;
@@ -18,6 +19,7 @@ use std::thread::Threads;
 use std::time::Instant;
 use std::{io, thread};
 use xbar_core::{Event, Exchange};
+use xbar_equip::WORD_COUNT;
 use xbar_fabric::{Desk, Fabric, Kind};
 use xbar_plan::Plan;
 
@@ -80,6 +82,42 @@ fn work_at_desks<R: Threads + Sync>(rt: &R, alloc: Global, crew: &Crew) -> io::R
         &|desk: Desk| -> Tally
             requires { IsDeskOf desk fabric }
         { work(&fabric, desk, times) },
+    )?;
+    Ok(Tally::of_all(&tallies))
+}
+
+/// Has a marker of a number below 10 do `jobs` jobs, each whole, on the words under the lock.
+fn work_whole<R: Wait>(
+    rt: &R,
+    plan: &Plan,
+    words: &Mutex<[u64; WORD_COUNT]>,
+    marker: u32,
+    jobs: u32,
+) -> Tally {
+    let mut state = State::default();
+    for _done in 0..jobs {
+        let job = state.next_job(marker);
+        let mut words = words.lock(rt);
+        let steps = serve(plan, &mut *words, job, Pace::Runs);
+        state.tally.count(u64::from(steps), true);
+    }
+    state.tally
+}
+
+/// Has the crew's markers do whole jobs behind one lock, one for each four times that they would go
+/// on otherwise. Returns how much all have done.
+fn work_at_whole_jobs<R: Threads + Wait + Sync>(
+    rt: &R,
+    alloc: Global,
+    crew: &Crew,
+) -> io::Result<Tally> {
+    let (plan, jobs) = (crew.plan, crew.times / 4);
+    let words = Mutex::new([0; WORD_COUNT]);
+    let tallies = thread::map_indices(
+        rt,
+        alloc,
+        crew.kinds.len(),
+        &|marker: usize| -> Tally { work_whole(rt, plan, &words, (marker % 10) as u32, jobs) },
     )?;
     Ok(Tally::of_all(&tallies))
 }
@@ -168,9 +206,13 @@ pub fn measure<R: Eprint + Clock + Threads + Wait + Sync>(
         let (step, job) = done.paces(start.elapsed(rt)?, count);
         eprintln!(rt; "{count} desks of the office: {step} ns a step, {job} ns a job")?;
         let start = Instant::now(rt)?;
+        let done = work_at_whole_jobs(rt, alloc, &crew)?;
+        let (step, job) = done.paces(start.elapsed(rt)?, count);
+        eprintln!(rt; "{count} threads, a lock for each job: {step} ns a step, {job} ns a job")?;
+        let start = Instant::now(rt)?;
         let done = work_behind_lock(rt, alloc, &crew)?;
         let (step, job) = done.paces(start.elapsed(rt)?, count);
-        eprintln!(rt; "{count} markers behind one lock: {step} ns a step, {job} ns a job")?;
+        eprintln!(rt; "{count} markers, a lock for each step: {step} ns a step, {job} ns a job")?;
         let start = Instant::now(rt)?;
         plain::operate(rt, alloc, count, times)?;
         let step = nanoseconds_each(start.elapsed(rt)?, 1, u64::from(times));

@@ -5,16 +5,19 @@ ghost use Rattle.bank.specs.System.{IsJob, bank};
 ghost use Rattle.desks.specs.Views.{IsDeskOf};
 ghost use Rattle.workers.specs.Workers.{IsLogOf};
 
-use bank::accounts::ACCOUNTS;
-use bank::{Job, Reply};
+use bank::{Job, Opening, Reply};
 use bank_desks::BankJobs;
 use bank_desks::shutting::shut_bank;
-use desks::{JobRecord, Room};
+use desks::{Desk, JobRecord, Room, shut};
+use std::alloc::{AllocError, Global};
 use std::test::Fail;
-use workers::{Routine, Shift, Yielding, at_once};
+use workers::{Routine, Shift, Yielding, at_once, last_desk, persist};
 
-/// The balance with which each account opens.
-const OPENING: u64 = 1_000;
+/// Sixteen accounts open.
+const OPENING: Opening = Opening {
+    shards: 4,
+    balance: 1_000,
+};
 
 /// The number of jobs of each desk.
 const ROUNDS: u64 = 2_000;
@@ -23,10 +26,10 @@ type BankRecord = JobRecord<Job, Reply>;
 
 /// The job of a desk's round: all kinds of jobs on all accounts, some of which are refused.
 fn job_of(desk: u32, round: u64) -> Job
-    ensures { IsJob result }
+    ensures { IsJob OPENING result }
 {
-    let from = (round % u64::from(ACCOUNTS)) as u32;
-    let to = desk % ACCOUNTS;
+    let from = (round % 16) as u32;
+    let to = desk % 16;
     match round / 3 % 5 {
         0 => Job::Deposit(from, round % 500),
         1 => Job::Withdraw(to, round % 1_000),
@@ -159,7 +162,7 @@ fn eight_desks_do_jobs_of_the_bank_on_threads(rt: HostRuntime) -> Result<(), Fai
     assert!(rt; records.len() == 16_000);
     assert!(rt; count_of(records.as_slice(), Reply::Done) > 4_000);
     assert!(rt; count_of(records.as_slice(), Reply::Refused) > 1_000);
-    let mut balances: Vec<u64> = vec![in alloc; OPENING; 16]?;
+    let mut balances: Vec<u64> = vec![in alloc; OPENING.balance; 16]?;
     assert!(rt; are_right(records, balances.as_mut_slice()));
     let Ok(words) = shut_bank(alloc, room, OPENING, shifts) else {
         return Err("each job has ended".into());
@@ -167,5 +170,50 @@ fn eight_desks_do_jobs_of_the_bank_on_threads(rt: HostRuntime) -> Result<(), Fai
     assert!(rt; words.len() == 21);
     assert!(rt; &words.as_slice()[..16] == balances.as_slice());
     assert!(rt; words.as_slice()[16..] == [0, 0, 0, 0, 16_000]);
+    Ok(())
+}
+
+/// Moves 5 from account 0 to the last one, and returns the words of the bank.
+fn words_after_transfer(
+    alloc: Global,
+    room: Room<BankJobs>,
+    opening: &Opening,
+    mut desk: Desk<BankJobs>,
+) -> Option<Vec<u64>>
+    requires { IsDeskOf desk room opening.now }
+{
+    let last = u32::try_from(opening.account_count().checked_sub(1)?).ok()?;
+    desk.assign(0, Job::Transfer(0, last, 5));
+    let reported = persist(&room, opening, &mut desk, &Yielding)?;
+    if reported.reply != Reply::Done {
+        return None;
+    }
+    shut::<BankJobs>(alloc, room, opening, desk).ok()
+}
+
+/// The words of a bank of so many shards, with 7 on each account, after a transfer of 5.
+fn expected_words(alloc: Global, shards: u8) -> Result<Vec<u64>, AllocError> {
+    let shards = usize::from(shards);
+    let mut words = vec![in alloc; 2; 1]?;
+    words.resize((4 * shards).saturating_sub(1), 7)?;
+    words.push(12)?;
+    words.resize(5 * shards, 0)?;
+    words.push(1)?;
+    Ok(words)
+}
+
+#[test]
+fn a_bank_has_the_shards_of_its_opening(rt: HostRuntime) -> Result<(), Fail> {
+    let alloc = rt.alloc();
+    for shards in [1_u8, 3, 64] {
+        let opening = Opening {
+            shards: u32::from(shards),
+            balance: 7,
+        };
+        let (room, mut desks) = Room::<BankJobs>::open(alloc, &opening, 1)?;
+        let desk = last_desk(&room, &mut desks).ok_or("there is a desk")?;
+        let words = words_after_transfer(alloc, room, &opening, desk).ok_or("the job ends")?;
+        assert_eq!(rt; words, expected_words(alloc, shards)?);
+    }
     Ok(())
 }
