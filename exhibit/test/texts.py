@@ -105,6 +105,7 @@ def fill_with_life(test, mode):
         page.automatic(True, "End")
         test.browser.wait("return exhibit.look().records.length > 0", 60)
         page.automatic(False)
+        page.wait_until_still()
     else:
         page.play(page.films()[0])
         page.wait_until_still()
