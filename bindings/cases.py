@@ -14,6 +14,8 @@ import sys
 import tempfile
 import tomllib
 
+from tasks import tasks
+
 ROOT = os.path.dirname(os.path.dirname(os.path.realpath(__file__)))
 ROWS = os.path.join(ROOT, "crates", "worked_rows", "data")
 # Rows that say something else than the engine does.
@@ -21,16 +23,10 @@ DIFFERENT = "different.toml"
 EXAMPLES = os.path.join(ROOT, "examples")
 
 # The words of each task, and the task of each verb of a row.
-WORDS = {
-    0: ["replay"], 1: ["walk"], 2: ["walk", "--short"], 3: ["walk", "--json"], 4: ["audit"], 5: ["draw", "--text"],
-    6: ["draw"], 7: ["page"], 8: ["look"], 9: ["look", "--json"], 10: ["look", "--svg"],
-}
-VERBS = {
-    "replay": 0, "replay and audit": 0, "walk": 1, "walk in short": 2, "walk as JSON": 3, "audit": 4, "draw": 5,
-    "draw in SVG": 6, "page": 7, "look": 8, "look as JSON": 9, "look in SVG": 10,
-}
-ON_RECORDS = (4, 5, 6, 7)
-ON_ROWS = (0, 1, 2, 3, 8, 9, 10)
+WORDS = {task.number: task.words for task in tasks()}
+VERBS = {"replay and audit": 0} | {task.name: task.number for task in tasks()}
+ON_RECORDS = [task.number for task in tasks() if not task.on_rows]
+ON_ROWS = [task.number for task in tasks() if task.on_rows]
 
 # Each with the words and the plan's file that the program would have, and the file that it should write.
 OF_EXAMPLES = [
@@ -74,7 +70,7 @@ def of_rows():
     example = read(ROWS, "example.toml").decode()
     for file in sorted(set(os.listdir(ROWS)) - {DIFFERENT}):
         for row in tomllib.loads(read(ROWS, file).decode()).get("rows", []):
-            text = (row["output"] + row.get("reasons", "")).encode()
+            text = row["output"].encode()
             yield (row["name"], VERBS[row.get("verb", "replay")], row.get("markers", "XX").encode(),
                    plan_of(row, example), row.get("input", "").encode(), row.get("status", 0), text)
 

@@ -30,10 +30,10 @@ impl SplitMix64 {
     }
 }
 
-/// Transfers on threads, as `Day` of the benchmarks has them. Without `hot` they are between any two shards; with it
+/// Transfers on threads, as `Workload` of the benchmarks has them. Without `hot` they are between any two shards; with it
 /// each thread has shards of its own, and so many of a hundred transfers go to shard 0.
 #[derive(Clone, Copy)]
-struct Day {
+struct Workload {
     shards: u8,
     hot: Option<u8>,
     rounds: u32,
@@ -50,14 +50,14 @@ struct Chooser {
 }
 
 impl Chooser {
-    fn new(day: &Day, thread: u8) -> Self {
+    fn new(workload: &Workload, thread: u8) -> Self {
         let random = SplitMix64(u64::from(thread));
-        let (first, count) = match (day.hot, (day.shards - 1) / day.threads) {
-            (None, _) => (0, day.shards),
-            (Some(_), 0) => (1, day.shards - 1),
+        let (first, count) = match (workload.hot, (workload.shards - 1) / workload.threads) {
+            (None, _) => (0, workload.shards),
+            (Some(_), 0) => (1, workload.shards - 1),
             (Some(_), own) => (1 + thread * own, own),
         };
-        Chooser { random, first, count, hot: day.hot.unwrap_or(0) }
+        Chooser { random, first, count, hot: workload.hot.unwrap_or(0) }
     }
 
     /// A shard and an account in it, twice.
@@ -108,11 +108,11 @@ fn transfer_between(shards: &[Padded<Mutex<Shard>>], from: [usize; 2], to: [usiz
     (one.balances[from[1]], other.balances[to[1]]) = moved(left, has);
 }
 
-/// Has threads make the day's transfers. Returns nanoseconds that pass for a job.
-fn transfers(day: &Day, transfer: impl Fn([usize; 2], [usize; 2]) + Sync) -> u64 {
-    timed(day.threads, day.jobs, |thread| {
-        let mut chooser = Chooser::new(day, thread);
-        for _ in 0..day.jobs {
+/// Has threads make the workload's transfers. Returns nanoseconds that pass for a job.
+fn transfers(workload: &Workload, transfer: impl Fn([usize; 2], [usize; 2]) + Sync) -> u64 {
+    timed(workload.threads, workload.jobs, |thread| {
+        let mut chooser = Chooser::new(workload, thread);
+        for _ in 0..workload.jobs {
             let (from, to) = chooser.choose();
             transfer(from, to);
         }
@@ -135,17 +135,17 @@ fn sum(shards: impl Iterator<Item = Shard>) -> u64 {
     shards.map(|shard| shard.balances.iter().sum::<u64>()).sum()
 }
 
-fn behind_one(day: &Day) -> u64 {
-    let all = Mutex::new(vec![OPEN; day.shards.into()]);
-    let time = transfers(day, |from, to| transfer_in_all(&all, from, to, day.rounds));
-    assert_eq!(sum(all.into_inner().unwrap().into_iter()), 4_000_000 * u64::from(day.shards));
+fn behind_one(workload: &Workload) -> u64 {
+    let all = Mutex::new(vec![OPEN; workload.shards.into()]);
+    let time = transfers(workload, |from, to| transfer_in_all(&all, from, to, workload.rounds));
+    assert_eq!(sum(all.into_inner().unwrap().into_iter()), 4_000_000 * u64::from(workload.shards));
     time
 }
 
-fn behind_each(day: &Day) -> u64 {
-    let shards: Vec<_> = (0..day.shards).map(|_| Padded(Mutex::new(OPEN))).collect();
-    let time = transfers(day, |from, to| transfer_between(&shards, from, to, day.rounds));
-    assert_eq!(sum(shards.into_iter().map(|it| it.0.into_inner().unwrap())), 4_000_000 * u64::from(day.shards));
+fn behind_each(workload: &Workload) -> u64 {
+    let shards: Vec<_> = (0..workload.shards).map(|_| Padded(Mutex::new(OPEN))).collect();
+    let time = transfers(workload, |from, to| transfer_between(&shards, from, to, workload.rounds));
+    assert_eq!(sum(shards.into_iter().map(|it| it.0.into_inner().unwrap())), 4_000_000 * u64::from(workload.shards));
     time
 }
 
@@ -164,16 +164,16 @@ fn measure<const N: usize>(what: &str, ways: [(&str, &dyn Fn() -> u64); N]) {
     println!();
 }
 
-fn measure_day(what: &str, day: &Day) {
+fn measure_workload(what: &str, workload: &Workload) {
     let ways: [(&str, &dyn Fn() -> u64); 2] =
-        [("one lock", &|| behind_one(day)), ("a lock for each shard", &|| behind_each(day))];
+        [("one lock", &|| behind_one(workload)), ("a lock for each shard", &|| behind_each(workload))];
     measure(what, ways);
 }
 
 fn bank(thousands: u32) {
     for threads in [1, 2, 4] {
-        let day = Day { shards: 4, hot: None, rounds: 0, threads, jobs: 1000 * thousands };
-        measure_day(&format!("{threads} threads"), &day);
+        let workload = Workload { shards: 4, hot: None, rounds: 0, threads, jobs: 1000 * thousands };
+        measure_workload(&format!("{threads} threads"), &workload);
     }
 }
 
@@ -184,8 +184,8 @@ fn groups(shards: u8) {
     for (time, rounds) in [(0, 0), (1, microsecond)] {
         for hot in [0, 10, 50] {
             for threads in [1, 2, 4] {
-                let day = Day { shards, hot: Some(hot), rounds, threads, jobs: if rounds == 0 { 200_000 } else { 20_000 } };
-                measure_day(&format!("{time} us of work, {hot} % at shard 0, {threads} threads"), &day);
+                let workload = Workload { shards, hot: Some(hot), rounds, threads, jobs: if rounds == 0 { 600_000 } else { 60_000 } };
+                measure_workload(&format!("{time} us of work, {hot} % at shard 0, {threads} threads"), &workload);
             }
         }
     }

@@ -25,6 +25,11 @@ def shell(name, text, **how):
     return Step(name, ["sh", "-c", text], **how)
 
 
+def await_file(name):
+    """A line of the shell that waits for a file, and fails the step after a minute without it."""
+    return f"k=0; until test -e {name}; do k=$((k + 1)); test $k -lt 3000 || exit 1; sleep 0.02; done"
+
+
 GOOD = shell("good", "echo something; echo '3 passed, 0 failed'")
 
 
@@ -137,8 +142,10 @@ class Tables(OnTables):
 class AtOnce(OnTables):
     """Several steps at once. A step that marks itself leaves a file while it runs and says who else does."""
 
-    def marked(self, name, **how):
-        text = f"touch {name}.now; sleep 0.2; ls *.now; rm {name}.now; echo '1 passed, 0 failed'"
+    def marked(self, name, meets=None, **how):
+        """A step that is marked for a while or, if it is to meet another one, until that one has begun."""
+        wait = await_file(f"{meets}.begun") if meets else "sleep 0.2"
+        text = f"touch {name}.now {name}.begun; {wait}; ls *.now; rm {name}.now; echo '1 passed, 0 failed'"
         return shell(name, text, **how)
 
     def beside(self, name):
@@ -147,9 +154,11 @@ class AtOnce(OnTables):
             return {line.removesuffix(".now\n") for line in it if line.endswith(".now\n")}
 
     def test_side_by_side(self):
-        self.assertEqual(self.run_steps(*map(self.marked, "abc"), at_once=2), (0, "3 passed, 0 failed"))
-        self.assertEqual(self.beside("a"), {"a", "b"})
-        self.assertLessEqual(len(self.beside("b")), 2)
+        """The first step ends once the second has begun, the second once the third has."""
+        table = self.marked("a", meets="b"), self.marked("b", meets="c"), self.marked("c")
+        self.assertEqual(self.run_steps(*table, at_once=2), (0, "3 passed, 0 failed"))
+        for name in "abc":
+            self.assertLessEqual(len(self.beside(name)), 2)
 
     def test_one_at_once(self):
         self.run_steps(*map(self.marked, "abc"), at_once=1)
@@ -164,9 +173,9 @@ class AtOnce(OnTables):
 
     def test_after(self):
         """A step doesn't begin before what it stands on has ended, and holds up nobody else."""
-        slow = shell("slow", "sleep 0.3; touch done; echo '1 passed, 0 failed'")
+        slow = shell("slow", await_file("went") + "; touch done; echo '1 passed, 0 failed'")
         late = shell("late", "test -e done && echo '1 passed, 0 failed'", after=["slow"])
-        quick = shell("quick", "test ! -e done && echo '1 passed, 0 failed'")
+        quick = shell("quick", "touch went; echo '1 passed, 0 failed'")
         self.assertEqual(self.run_steps(slow, late, quick, at_once=3), (0, "3 passed, 0 failed"))
 
     def test_after_a_failure(self):

@@ -26,7 +26,7 @@ class Files {
 
   // Saves a drawing, or tells why there is none.
   async saveDrawing({ session }) {
-    const call = [TASK.drawing, session.plan, session.kinds, session.recordsText()];
+    const call = [TASK.draw, session.plan, session.kinds, session.recordsText()];
     const answer = await session.engine.answer(...call).catch(error => ({ error }));
     if (answer.status !== STATUS.fine) return this.tell(t('save.undrawn', { why: lackWords(answer) }));
     setText($('files-message'), '');

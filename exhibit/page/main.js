@@ -83,7 +83,7 @@ class Page {
 
   // The fault of a plan with rows in a text, or null if the engine takes them.
   async faultOf(plan, kinds, rows) {
-    const { status, text } = await this.engine.answer(TASK.lookJson, plan, kinds, rows);
+    const { status, text } = await this.engine.answer(TASK.lookAsJson, plan, kinds, rows);
     return status === 0 ? null : { status, line: text.trim() };
   }
 

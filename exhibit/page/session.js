@@ -1,7 +1,7 @@
 // What a visitor has made of an office: its plan, its markers' kinds, and rows of traffic. The rows are
 // all that there is; what stands is what the engine says of them. To step a marker is to add a row, to undo
 // is to take one back.
-const TASK = { replay: 0, audit: 4, lookJson: 9, drawing: 6 };
+const TASK = { replay: 0, audit: 4, draw: 6, lookAsJson: 9 };
 const STATUS = { fine: 0, markersRefused: 2, planRefused: 3, outOfMemory: 5, foundWrong: 7 };
 const MOST_STEPS = 9999, MOST_JOBS = 10000;
 
@@ -133,7 +133,7 @@ class Session {
 }
 
 // The call of the engine for what stands after these rows, with the events of the last one.
-const lookCall = (plan, kinds, rows) => [TASK.lookJson, plan, kinds, rowsText(rows, true)];
+const lookCall = (plan, kinds, rows) => [TASK.lookAsJson, plan, kinds, rowsText(rows, true)];
 
 // Records, and their trouble cards, as the program writes them.
 const recordsText = records => records.map(recordText).join('') + cardsText(records);

@@ -18,7 +18,7 @@ use Rattle.attempts.specs.Running.{WalksBySteps}
 use Rattle.attempts.specs.Validity.{CanWalk, ResumePointIsValidIn, AttemptView, attempt_of, effects_left}
 use Rattle.attempts.specs.SystemWith.{SystemWith, system_with}
 use Rattle.attempts.specs.Applied.{FitsValue, Applies, WalksOn, continued}
-use Rattle.attempts.proofs.Giving.{held_off, held_stays, preferred_off, preferred_stays}
+use Rattle.attempts.proofs.Giving.{held_stays, preferred_stays}
 use Rattle.attempts.proofs.Inside.{phase_now}
 use Rattle.attempts.proofs.WalksOnWords.{walk_none}
 
@@ -34,9 +34,16 @@ module _ (O : System) where
   idle_again a (Seizes lock expected) word not = absurd (not lock expected refl)
   idle_again a phase word not = refl
 
-  idle_seized : (a : AttemptOf O) (phase : Phase Lock ℕ) → ((lock : Lock) (expected : ℕ) → phase ≡ Seizes lock expected → ⊥) → a ≡ changed O a phase Seized
-  idle_seized a (Seizes lock expected) not = absurd (not lock expected refl)
-  idle_seized a phase not = refl
+  idle_seized : (a : AttemptOf O) (phase : Phase Lock ℕ) → None ≡ asked_in phase → a ≡ changed O a phase Seized
+  idle_seized a (Requests lock) none = absurd cc
+  idle_seized a (Seizes lock expected) none = absurd cc
+  idle_seized a phase none = refl
+
+  -- a lock that is seized in the phase that names it
+  pub acquires : (a : AttemptOf O) (phase : Phase Lock ℕ) (lock : Lock) → Some lock ≡ asked_in phase → walks_on O (record a { held = a.held ++ lock ∷ [] }) ≡ changed O a phase Seized
+  acquires a (Requests own) lock names = let one : lock ≡ own = cc in ap (λ (x : Lock). walks_on O (record a { held = a.held ++ x ∷ [] })) one
+  acquires a (Seizes own expected) lock names = let one : lock ≡ own = cc in ap (λ (x : Lock). walks_on O (record a { held = a.held ++ x ∷ [] })) one
+  acquires a phase lock names = absurd cc
 
   idle_value : (a : AttemptOf O) (phase : Phase Lock ℕ) (value : ℕ) → ((word : ℕ) → phase ≡ Tests word → ⊥) → a ≡ changed O a phase (Value value)
   idle_value a (Tests word) value not = absurd (not word refl)
@@ -121,9 +128,6 @@ module _ {Lock Job Reply Effect Decision ResumePoint : Type 0} (same : Lock → 
     pub not_again : (word : ℕ) → ((lock : Lock) (expected : ℕ) → p.phase ≡ Seizes lock expected → ⊥) → Took (Again word) now now
     not_again word not = idle now (Again word) tt point (idle_again O (outside now) now.phase word (λ lock expected e. not lock expected (phases ∙ e)))
 
-    pub not_seized : ((lock : Lock) (expected : ℕ) → p.phase ≡ Seizes lock expected → ⊥) → Took Seized now now
-    not_seized not = idle now Seized tt point (idle_seized O (outside now) now.phase (λ lock expected e. not lock expected (phases ∙ e)))
-
     pub not_read : (value : ℕ) → FitsValue (Value value) → ((word : ℕ) → p.phase ≡ Tests word → ⊥) → Took (Value value) now now
     not_read value fits not = idle now (Value value) fits point (idle_value O (outside now) now.phase value (λ word e. not word (phases ∙ e)))
 
@@ -133,29 +137,13 @@ module _ {Lock Job Reply Effect Decision ResumePoint : Type 0} (same : Lock → 
     pub not_done : ((lock : Lock) → p.phase ≡ Withdraws lock → ⊥) → (p.phase ≡ GivesBack → ⊥) → ((turn : ℕ) → p.phase ≡ Operates turn → ⊥) → Took Done now now
     not_done withdraws gives_back operates = idle now Done tt point (idle_done O (outside now) now.phase (λ lock e. withdraws lock (phases ∙ e)) (λ e. gives_back (phases ∙ e)) (λ turn e. operates turn (phases ∙ e)))
 
-  -- denied, or with no lock to be denied
-  module _ (now : Doing) where
-    pub put_off_held : (new : Doing) (lock : Lock) (holder : ℕ) → Some lock ≡ asked_in now.phase → new ≡ record now { readings = []; decision = None; made = 0; phase = Withdraws lock } → Took (Held holder) now new
-    put_off_held new lock holder asks made = record {
-      fits = tt;
-      change = ap outside made ∙ held_off O (outside now) now.phase lock holder asks;
-      point = subst PointHere (sym made) tt;
-      count = ap (λ (x : Doing). x.count) made;
-    }
+    -- with no lock to be denied
+    module _ (asks : (lock : Lock) → p.phase ≡ Requests lock → ⊥) (seizes : (lock : Lock) (expected : ℕ) → p.phase ≡ Seizes lock expected → ⊥) where
+      pub stays_held : (holder : ℕ) → Took (Held holder) now now
+      stays_held holder = idle now (Held holder) tt point (held_stays O (outside now) now.phase holder (λ lock e. asks lock (phases ∙ e)) (λ lock expected e. seizes lock expected (phases ∙ e)))
 
-    pub put_off_preferred : (new : Doing) (lock : Lock) (other : ℕ) → Some lock ≡ asked_in now.phase → new ≡ record now { readings = []; decision = None; made = 0; phase = Withdraws lock } → Took (Preferred other) now new
-    put_off_preferred new lock other asks made = record {
-      fits = tt;
-      change = ap outside made ∙ preferred_off O (outside now) now.phase lock other asks;
-      point = subst PointHere (sym made) tt;
-      count = ap (λ (x : Doing). x.count) made;
-    }
-
-    pub stays_held : (holder : ℕ) → None ≡ asked_in now.phase → PointHere now → Took (Held holder) now now
-    stays_held holder none point = idle now (Held holder) tt point (held_stays O (outside now) now.phase holder (sym none))
-
-    pub stays_preferred : (other : ℕ) → None ≡ asked_in now.phase → PointHere now → Took (Preferred other) now now
-    stays_preferred other none point = idle now (Preferred other) tt point (preferred_stays O (outside now) now.phase other (sym none))
+      pub stays_preferred : (other : ℕ) → Took (Preferred other) now now
+      stays_preferred other = idle now (Preferred other) tt point (preferred_stays O (outside now) now.phase other (λ lock e. asks lock (phases ∙ e)) (λ lock expected e. seizes lock expected (phases ∙ e)))
 
   pub operates_point : (p : Doing) (turn : ℕ) → p.phase ≡ Operates turn → PointHere p
   operates_point p turn is = subst (λ (at : Phase Lock ℕ). ResumePointIsValidIn ResumePointIsValid (outside p) p.point at) (sym is) tt
@@ -238,8 +226,14 @@ module _ {Lock Job Reply Effect Decision ResumePoint : Type 0} (same : Lock → 
   walks_from mid made new is by = subst (λ (x : Doing). Walks x new) is by
 
   -- with a lock or a reading more it goes on through its job
-  pub seized : (now mid new : Doing) (lock : Lock) (expected : ℕ) → now.phase ≡ Seizes lock expected → mid ≡ record now { held = now.held ++ lock ∷ [] } → Walks mid new → Took Seized now new
-  seized now mid new lock expected is holds by = took now new (Seizes lock expected) Seized is tt (by.change ∙ ap (λ (x : Doing). walks_on O (outside x)) holds) by.point (by.count ∙ ap (λ (x : Doing). x.count) holds)
+  pub seized : (now mid new : Doing) (lock : Lock) → Some lock ≡ asked_in now.phase → mid ≡ record now { held = now.held ++ lock ∷ [] } → Walks mid new → Took Seized now new
+  seized now mid new lock asks holds by =
+      let change = by.change ∙ ap (λ (x : Doing). walks_on O (outside x)) holds ∙ acquires O (outside now) now.phase lock asks in
+      took now new now.phase Seized refl tt change by.point (by.count ∙ ap (λ (x : Doing). x.count) holds)
+
+  -- with no lock to seize it stays
+  pub not_seized : (now : Doing) → None ≡ asked_in now.phase → PointHere now → Took Seized now now
+  not_seized now none point = idle now Seized tt point (idle_seized O (outside now) now.phase none)
 
   module _ (now mid new : Doing) (word value : ℕ) (is : now.phase ≡ Tests word) (fits : FitsValue (Value value)) (notes : mid ≡ record now { readings = now.readings ++ record { word = word; value = value } ∷ [] }) where
     pub reads : Walks mid new → Took (Value value) now new

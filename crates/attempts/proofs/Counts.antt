@@ -2,7 +2,7 @@
 use Rattle.std.proofs.Common.{◌≡◌, ℕ, ◌+◌, ◌-◌, ◌^◌, ◌<◌, Bool, true, false, List, [], ◌∷◌, ◌++◌, length, refl, sym, ◌∙◌, subst, arith}
 use Rattle.std.specs.Prelude.{◌==◌, Result, Ok, Err, if◌then◌else◌, ⊤}
 use Rattle.std.proofs.lemmas.Bool.{eqb-true}
-use Rattle.turns.specs.Attempt.{AttemptOf, IsAnswerTo, act_in, begin, change, changed, walk_result, goes_on, operated}
+use Rattle.turns.specs.Attempt.{AttemptOf, IsAnswer, act_in, begin, change, changed, walk_result, goes_on, operated}
 use Rattle.turns.specs.Bounds.{AreSteady, IsSteady}
 use Rattle.turns.specs.System.{System}
 use Rattle.turns.specs.declared.answer.Answer.{Answer}
@@ -58,8 +58,11 @@ module _ (O : System) where
   begun_operated a turn [] at = subst (λ (phase : Phase Lock ℕ). HasBegun phase (operated a []).held) (sym at) tt
   begun_operated a turn (effect ∷ effects) at = subst (λ (phase : Phase Lock ℕ). HasBegun phase a.held) (sym at) tt
 
-  begun_in : (a : AttemptOf O) (phase : Phase Lock ℕ) (answer : Answer) → a.phase ≡ phase → HasBegun phase a.held → IsAnswerTo (act_in phase a) answer → IsSteady answer → HasBegun (changed O a phase answer).phase (changed O a phase answer).held
+  begun_in : (a : AttemptOf O) (phase : Phase Lock ℕ) (answer : Answer) → a.phase ≡ phase → HasBegun phase a.held → IsAnswer O (act_in phase a) answer → IsSteady answer → HasBegun (changed O a phase answer).phase (changed O a phase answer).held
   begun_in a (Requests lock) (Asked word) at begun fits steady = tt
+  begun_in a (Requests lock) Seized at begun fits steady =
+      let more : AttemptOf O = record a { held = a.held ++ lock ∷ [] } in
+      begun_on more (walk_result O more) (not_empty a.held lock)
   begun_in a (Requests lock) (Held holder) at begun fits steady = absurd steady
   begun_in a (Requests lock) (Preferred other) at begun fits steady = absurd steady
   begun_in a (Requests lock) answer at begun fits steady = absurd fits
@@ -96,6 +99,13 @@ module _ (O : System) where
   count_is job (Asked word ∷ answers) (fits, steady, later) below =
       let rest = count_along (after_answer O (fresh O job) (Asked word)) answers tt later (omega (arith, below)) in
       omega (arith, rest)
+  count_is job (Seized ∷ answers) (fits, steady, later) below =
+      let more : AttemptOf O = record (begin O job) { held = O.first job ∷ [] } in
+      let after : AttemptOf O = change O (begin O job) Seized in
+      let begun : HasBegun after.phase after.held = begun_on more (walk_result O more) (not_empty [] (O.first job)) in
+      let one : (after_answer O (fresh O job) Seized).count ≡ 1 = counts_on after.phase after.held (counted 0) begun in
+      let rest = count_along (after_answer O (fresh O job) Seized) answers begun later (omega (arith, below, one)) in
+      omega (arith, rest, one)
   count_is job (Held holder ∷ answers) (fits, steady, later) below = absurd steady
   count_is job (Preferred other ∷ answers) (fits, steady, later) below = absurd steady
   count_is job (answer ∷ answers) (fits, steady, later) below = absurd fits

@@ -1,8 +1,8 @@
 -- what is held is given back
 use Rattle.std.proofs.Common.{◌≡◌, ℕ, Bool, true, false, List, [], ◌∷◌, length, ◌⊎◌, inl, inr, refl, sym, ◌∙◌, ap, subst, arith}
 use Rattle.std.proofs.lemmas.Bool.{eqb-true}
-use Rattle.std.specs.Prelude.{◌==◌, None, Some}
-use Rattle.turns.specs.Attempt.{AttemptOf, asked_in, begin, changed, forgotten, giving_back, denied, rest_of, restarted, restarted_in}
+use Rattle.std.specs.Prelude.{◌==◌, None}
+use Rattle.turns.specs.Attempt.{AttemptOf, begin, changed, forgotten, giving_back, denied, rest_of, restarted, restarted_in}
 use Rattle.turns.specs.System.{System}
 use Rattle.turns.specs.declared.answer.Answer.TheVariants.{Held, Preferred}
 use Rattle.turns.specs.declared.phase.Phase.{Phase}
@@ -45,26 +45,16 @@ module _ (O : System) where
   stays_so a phase (inr (inl e)) = ap (λ (at : Phase Lock ℕ). restarted_in O at a) (sym e)
   stays_so a phase (inr (inr (turn, e))) = ap (λ (at : Phase Lock ℕ). restarted_in O at a) (sym e)
 
-  -- an attempt that requests or seizes is denied, and any other stays as it is
-  pub held_off : (a : AttemptOf O) (phase : Phase Lock ℕ) (lock : Lock) (holder : ℕ) → Some lock ≡ asked_in phase → denied a lock ≡ changed O a phase (Held holder)
-  held_off a (Requests own) lock holder e = let same : lock ≡ own = cc in ap (denied a) same
-  held_off a (Seizes own expected) lock holder e = let same : lock ≡ own = cc in ap (denied a) same
-  held_off a phase lock holder e = absurd cc
+  -- an attempt that neither requests nor seizes stays as it is if it is denied a lock
+  pub held_stays : (a : AttemptOf O) (phase : Phase Lock ℕ) (holder : ℕ) → ((lock : Lock) → phase ≡ Requests lock → ⊥) → ((lock : Lock) (expected : ℕ) → phase ≡ Seizes lock expected → ⊥) → a ≡ changed O a phase (Held holder)
+  held_stays a (Requests lock) holder asks seizes = absurd (asks lock refl)
+  held_stays a (Seizes lock expected) holder asks seizes = absurd (seizes lock expected refl)
+  held_stays a phase holder asks seizes = refl
 
-  pub preferred_off : (a : AttemptOf O) (phase : Phase Lock ℕ) (lock : Lock) (other : ℕ) → Some lock ≡ asked_in phase → denied a lock ≡ changed O a phase (Preferred other)
-  preferred_off a (Requests own) lock other e = let same : lock ≡ own = cc in ap (denied a) same
-  preferred_off a (Seizes own expected) lock other e = let same : lock ≡ own = cc in ap (denied a) same
-  preferred_off a phase lock other e = absurd cc
-
-  pub held_stays : (a : AttemptOf O) (phase : Phase Lock ℕ) (holder : ℕ) → asked_in phase ≡ None → a ≡ changed O a phase (Held holder)
-  held_stays a (Requests lock) holder e = absurd cc
-  held_stays a (Seizes lock expected) holder e = absurd cc
-  held_stays a phase holder e = refl
-
-  pub preferred_stays : (a : AttemptOf O) (phase : Phase Lock ℕ) (other : ℕ) → asked_in phase ≡ None → a ≡ changed O a phase (Preferred other)
-  preferred_stays a (Requests lock) other e = absurd cc
-  preferred_stays a (Seizes lock expected) other e = absurd cc
-  preferred_stays a phase other e = refl
+  pub preferred_stays : (a : AttemptOf O) (phase : Phase Lock ℕ) (other : ℕ) → ((lock : Lock) → phase ≡ Requests lock → ⊥) → ((lock : Lock) (expected : ℕ) → phase ≡ Seizes lock expected → ⊥) → a ≡ changed O a phase (Preferred other)
+  preferred_stays a (Requests lock) other asks seizes = absurd (asks lock refl)
+  preferred_stays a (Seizes lock expected) other asks seizes = absurd (seizes lock expected refl)
+  preferred_stays a phase other asks seizes = refl
 
 module _ {Lock Job Reply Effect Decision : Type 0} (same : Lock → Lock → Bool) (reply_of : Decision → Reply) (effects_of : Decision → List Effect) (S : SystemWith Lock Job Reply Effect Decision) where
   abbrev O : System

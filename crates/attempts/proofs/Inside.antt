@@ -2,6 +2,7 @@
 use Rattle.std.proofs.Common.{◌≡◌, ℕ, suc, arith, ne_eqb, ◌<◌, ◌+◌, ◌^◌, Bool, true, false, List, [], ◌∷◌, length, refl, sym, ◌∙◌, ap, subst}
 use Rattle.std.specs.Prelude.{◌==◌, if◌then◌else◌, Option, Some, None, IfSome, slice_get}
 use Rattle.turns.specs.Attempt.{Attempt, act, act_in, answer_to, asked_in, closing_act, free_act, turn_in}
+use Rattle.turns.specs.Sharings.{sharing_of}
 use Rattle.turns.specs.declared.act.Act.{Act}
 use Rattle.turns.specs.declared.act.Act.TheVariants.{Free, Finished}
 use Rattle.turns.specs.Runs.{is_finished}
@@ -119,7 +120,7 @@ module _ {Lock Job Reply Effect Decision : Type 0} (same : Lock → Lock → Boo
   closing_done [] held = freeing_done held
   closing_done (effect ∷ effects) held = refl
 
-  pub told_by : (phase : Phase Lock ℕ) (a : Attempt Lock Job Reply Effect) → answer_in phase k found ≡ answered (act_in phase a)
+  pub told_by : (phase : Phase Lock ℕ) (a : Attempt Lock Job Reply Effect) → answer_in (sharing_of S.sharing) phase k found ≡ answered (act_in phase a)
   told_by GivesBack a = freeing_done a.held
   told_by (Operates turn) a = closing_done a.effects a.held
   told_by phase a = refl

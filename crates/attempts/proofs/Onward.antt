@@ -1,15 +1,14 @@
 -- with what was seized or read there is room, and the resume point is valid
-use Rattle.std.proofs.Common.{◌≡◌, ◌≢◌, ℕ, ◌<◌, ◌^◌, Bool, true, List, [], ◌∷◌, ◌++◌, length, refl, sym, ◌∙◌, ap, subst}
-use Rattle.std.specs.Prelude.{None, Err}
-use Rattle.turns.specs.Attempt.{AttemptOf, IsValidIn, act, change, restarted}
-use Rattle.turns.specs.declared.act.Act.TheVariants.{Finished}
+use Rattle.std.proofs.Common.{◌≡◌, ℕ, ◌<◌, ◌^◌, Bool, true, List, [], ◌∷◌, ◌++◌, length, refl, sym, subst}
+use Rattle.std.specs.Prelude.{Option, None, Some, Err, IfSome}
+use Rattle.turns.specs.Attempt.{IsValidIn, asked_in, change, restarted}
 use Rattle.turns.specs.Script.{value_read, walk}
 use Rattle.turns.specs.Seen.{Seen}
 use Rattle.turns.specs.System.{System}
-use Rattle.turns.specs.World.{operation, place}
+use Rattle.turns.specs.World.{place}
 use Rattle.turns.specs.declared.answer.Answer.{Answer}
 use Rattle.turns.specs.declared.phase.Phase.{Phase}
-use Rattle.turns.specs.declared.phase.Phase.TheVariants.{Seizes, Tests}
+use Rattle.turns.specs.declared.phase.Phase.TheVariants.{Requests, Seizes, Tests}
 use Rattle.turns.specs.declared.reading.Reading.{Reading}
 use Rattle.turns.specs.declared.wanted.Wanted.TheVariants.{Test}
 use Rattle.turns.proofs.Room.{held_before, read_before}
@@ -19,7 +18,7 @@ use Rattle.attempts.specs.Validity.{AreScripts, AttemptView, CanWalk, IsValidInB
 use Rattle.attempts.specs.SystemWith.{SystemWith, system_with}
 use Rattle.attempts.specs.Applied.{MayRead}
 use Rattle.attempts.proofs.ReadOnce.{wants_unread}
-use Rattle.attempts.proofs.Places.{FitsValue, fits_seize, fits_test, place_begin, place_change, place_restarted, place_there}
+use Rattle.attempts.proofs.Places.{FitsValue, fits_request, fits_seize, fits_test, place_begin, place_change, place_restarted}
 
 module _ {Lock Job Reply Effect Decision ResumePoint : Type 0} (same : Lock → Lock → Bool) (reply_of : Decision → Reply) (effects_of : Decision → List Effect) (S : SystemWith Lock Job Reply Effect Decision) (ResumePointIsValid : Job → ResumePoint → Seen Lock → Type 0) (R H : ℕ) (are : AreScripts same reply_of effects_of S ResumePointIsValid R H) where
   abbrev O : System
@@ -37,8 +36,13 @@ module _ {Lock Job Reply Effect Decision ResumePoint : Type 0} (same : Lock → 
   itself : (lock : Lock) → same lock lock ≡ true
   itself lock = (are.is_system.same lock lock).1 refl
 
-  pub room_to_seize : (p : Doing) (lock : Lock) (expected : ℕ) → StandsHere p → p.phase ≡ Seizes lock expected → length p.held < H
-  room_to_seize p lock expected valid e = fits_seize O are.is_system R H are.asks (attempt_of reply_of effects_of p) lock expected e valid.place
+  pub room_to_acquire : (p : Doing) (asked : Option Lock) → asked ≡ asked_in p.phase → StandsHere p → IfSome asked (λ (lock : Lock). length p.held < H)
+  room_to_acquire p None asks valid = tt
+  room_to_acquire p (Some lock) asks valid = at p.phase refl asks where
+    at : (phase : Phase Lock ℕ) → p.phase ≡ phase → Some lock ≡ asked_in phase → length p.held < H
+    at (Requests own) is e = fits_request O are.is_system R H are.asks (attempt_of reply_of effects_of p) own is valid.place
+    at (Seizes own expected) is e = fits_seize O are.is_system R H are.asks (attempt_of reply_of effects_of p) own expected is valid.place
+    at phase is e = absurd cc
 
   pub room_to_test : (p : Doing) (word : ℕ) → StandsHere p → p.phase ≡ Tests word → length p.readings < R
   room_to_test p word valid e = fits_test O are.is_system R H are.asks (attempt_of reply_of effects_of p) word e valid.place
@@ -51,11 +55,16 @@ module _ {Lock Job Reply Effect Decision ResumePoint : Type 0} (same : Lock → 
   unread_to_test p word valid e = wants_unread same (record { held = p.held; readings = p.readings }) word (S.script p.job) (wants_to_test p word valid e)
 
   -- the resume point is valid with a lock or a word more
-  pub walks_seized : (p : Doing) (lock : Lock) (expected : ℕ) (new : Doing) → StandsHere p → p.phase ≡ Seizes lock expected → new ≡ record p { held = p.held ++ lock ∷ [] } → CanWalk same reply_of effects_of S ResumePointIsValid new
-  walks_seized p lock expected new valid e made =
-      let before : ResumePointIsValid p.job p.point (record { held = p.held; readings = p.readings }) = subst (λ (phase : Phase Lock ℕ). ResumePointIsValidIn ResumePointIsValid (attempt_of reply_of effects_of p) p.point phase) e valid.point in
-      let more : Extends same (record { held = p.held; readings = p.readings }) (record { held = p.held ++ lock ∷ []; readings = p.readings }) = record { held = λ l h. held_before same itself p.held lock l h; readings = λ word value h. h } in
-      subst (λ (x : Doing). CanWalk same reply_of effects_of S ResumePointIsValid x) (sym made) (record { job = valid.place.job; read = valid.place.read; valid_point = are.stays_valid p.job p.point _ _ more before })
+  pub walks_acquired : (p : Doing) (asked : Option Lock) → asked ≡ asked_in p.phase → StandsHere p → IfSome asked (λ (lock : Lock). CanWalk same reply_of effects_of S ResumePointIsValid (record p { held = p.held ++ lock ∷ [] }))
+  walks_acquired p None asks valid = tt
+  walks_acquired p (Some lock) asks valid = record { job = valid.place.job; read = valid.place.read; valid_point = are.stays_valid p.job p.point _ _ more (before p.phase asks valid.point) } where
+    more : Extends same (record { held = p.held; readings = p.readings }) (record { held = p.held ++ lock ∷ []; readings = p.readings })
+    more = record { held = λ l h. held_before same itself p.held lock l h; readings = λ word value h. h }
+
+    before : (phase : Phase Lock ℕ) → Some lock ≡ asked_in phase → ResumePointIsValidIn ResumePointIsValid (attempt_of reply_of effects_of p) p.point phase → ResumePointIsValid p.job p.point (record { held = p.held; readings = p.readings })
+    before (Requests own) e known = known
+    before (Seizes own expected) e known = known
+    before phase e known = absurd cc
 
   pub walks_read : (p : Doing) (word value : ℕ) (new : Doing) → value < 2 ^ 64 → StandsHere p → p.phase ≡ Tests word → new ≡ record p { readings = p.readings ++ record { word = word; value = value } ∷ [] } → CanWalk same reply_of effects_of S ResumePointIsValid new
   walks_read p word value new below valid e made =

@@ -1,7 +1,7 @@
 -- an attempt has room for what is left of its script, and its next step is on a word of the system
-use Rattle.std.proofs.Common.{◌≡◌, ℕ, true, ◌+◌, ◌-◌, ◌<◌, ◌^◌, List, [], ◌∷◌, ◌++◌, length, length-append, inl, inr, refl, sym, subst, arith}
-use Rattle.std.specs.Prelude.{Result, Ok, Err}
-use Rattle.turns.specs.Attempt.{AttemptOf, IsValidIn, act, act_in, closing_act, free_act, begin, change, changed, walk_result, forgotten, giving_back, goes_on, operated, read_in, rest_of, restarted, restarted_in, seen_of}
+use Rattle.std.proofs.Common.{◌≡◌, ℕ, Bool, true, false, ◌+◌, ◌-◌, ◌<◌, ◌^◌, List, [], ◌∷◌, ◌++◌, length, length-append, inl, inr, refl, sym, subst, arith}
+use Rattle.std.specs.Prelude.{Result, Ok, Err, if◌then◌else◌}
+use Rattle.turns.specs.Attempt.{AttemptOf, IsValidIn, act, act_in, closing_act, free_act, begin, change, changed, walk_result, denied, forgotten, giving_back, goes_on, operated, read_in, rest_of, restarted, restarted_in, seen_of}
 use Rattle.turns.specs.Script.{AsksAtMost, left, walk}
 use Rattle.turns.specs.Seen.{Seen, AreReadWords}
 use Rattle.turns.specs.System.{System, IsSystem, DecidesUnder, IsUnder}
@@ -107,11 +107,18 @@ module _ (O : System) (is : IsSystem O) (most_readings most_held : ℕ) (asks : 
   room_operated a turn [] at = subst (λ (phase : Phase Lock ℕ). RoomIn (operated a []) phase) (sym at) tt
   room_operated a turn (effect ∷ effects) at = subst (λ (phase : Phase Lock ℕ). RoomIn (operated a (effect ∷ effects)) phase) (sym at) tt
 
+  room_denied : (asks : Bool) (a : AttemptOf O) (lock : Lock) → O.IsJob a.job → RoomIn (if asks then denied a lock else giving_back O (forgotten a) a.held) (if asks then denied a lock else giving_back O (forgotten a) a.held).phase
+  room_denied true a lock right = tt
+  room_denied false a lock right = room_freed (forgotten a) a.held right
+
   -- whatever the answer to its step, a valid attempt has room again
   room_changed : (a : AttemptOf O) (phase : Phase Lock ℕ) (answer : Answer) → FitsValue answer → O.IsJob a.job → AreReadWords a.readings → a.phase ≡ phase → RoomIn a a.phase → IsValidIn O a phase → RoomIn a phase → RoomIn (changed O a phase answer) (changed O a phase answer).phase
   room_changed a (Requests lock) (Asked told) fits right read at all valid room = room
-  room_changed a (Requests lock) (Held holder) fits right read at all valid room = tt
-  room_changed a (Requests lock) (Preferred other) fits right read at all valid room = tt
+  room_changed a (Requests lock) Seized fits right read at all valid room =
+      let more : AttemptOf O = record a { held = a.held ++ lock ∷ [] } in
+      room_on more (walk_result O more) (room_seized a lock read valid room).room
+  room_changed a (Requests lock) (Held holder) fits right read at all valid room = room_denied O.sharing.asks a lock right
+  room_changed a (Requests lock) (Preferred other) fits right read at all valid room = room_denied O.sharing.asks a lock right
   room_changed a (Seizes lock expected) Seized fits right read at all valid room =
       let more : AttemptOf O = record a { held = a.held ++ lock ∷ [] } in
       room_on more (walk_result O more) (room_seized a lock read valid room).room
@@ -189,10 +196,20 @@ module _ (O : System) (is : IsSystem O) (most_readings most_held : ℕ) (asks : 
   keeps_in : (a : AttemptOf O) (phase : Phase Lock ℕ) → Keeps a → Keeps (record a { phase = phase })
   keeps_in a phase keeps = record { held = keeps.held; read = keeps.read; effects = keeps.effects }
 
+  keeps_given_up : (a : AttemptOf O) → Keeps a → Keeps (giving_back O (forgotten a) a.held)
+  keeps_given_up a keeps = keeps_freed (forgotten a) a.held keeps.held none_read (λ effect none. absurd none)
+
+  keeps_denied : (asks : Bool) (a : AttemptOf O) (lock : Lock) → Keeps a → Keeps (if asks then denied a lock else giving_back O (forgotten a) a.held)
+  keeps_denied true a lock keeps = keeps_in (forgotten a) (Withdraws lock) (keeps_put_off a keeps)
+  keeps_denied false a lock keeps = keeps_given_up a keeps
+
   keeps_changed : (a : AttemptOf O) (phase : Phase Lock ℕ) (answer : Answer) → FitsValue answer → O.IsJob a.job → IsValidIn O a phase → Keeps a → Keeps (changed O a phase answer)
   keeps_changed a (Requests lock) (Asked word) fits right valid keeps = keeps_in a (Seizes lock word) keeps
-  keeps_changed a (Requests lock) (Held holder) fits right valid keeps = keeps_in (forgotten a) (Withdraws lock) (keeps_put_off a keeps)
-  keeps_changed a (Requests lock) (Preferred other) fits right valid keeps = keeps_in (forgotten a) (Withdraws lock) (keeps_put_off a keeps)
+  keeps_changed a (Requests lock) Seized fits right valid keeps =
+      let more : AttemptOf O = record a { held = a.held ++ lock ∷ [] } in
+      keeps_on more (walk_result O more) right refl (keeps_seized a lock (wanted_lock O is a lock right keeps.read valid) keeps)
+  keeps_changed a (Requests lock) (Held holder) fits right valid keeps = keeps_denied O.sharing.asks a lock keeps
+  keeps_changed a (Requests lock) (Preferred other) fits right valid keeps = keeps_denied O.sharing.asks a lock keeps
   keeps_changed a (Seizes lock expected) Seized fits right valid keeps =
       let more : AttemptOf O = record a { held = a.held ++ lock ∷ [] } in
       keeps_on more (walk_result O more) right refl (keeps_seized a lock (wanted_lock O is a lock right keeps.read valid) keeps)
@@ -208,9 +225,6 @@ module _ (O : System) (is : IsSystem O) (most_readings most_held : ℕ) (asks : 
   keeps_changed a GivesBack Done fits right valid keeps = keeps_freed a (rest_of a.held) (locks_rest a.held keeps.held) keeps.read keeps.effects
   keeps_changed a (Operates turn) Done fits right valid keeps = keeps_operated a a.effects keeps.effects keeps
   keeps_changed a _ _ fits right valid keeps = keeps
-
-  keeps_given_up : (a : AttemptOf O) → Keeps a → Keeps (giving_back O (forgotten a) a.held)
-  keeps_given_up a keeps = keeps_freed (forgotten a) a.held keeps.held none_read (λ effect none. absurd none)
 
   keeps_restarted : (a : AttemptOf O) (phase : Phase Lock ℕ) → Keeps a → Keeps (restarted_in O phase a)
   keeps_restarted a (Seizes lock expected) keeps = keeps_in (forgotten a) (Withdraws lock) (keeps_put_off a keeps)

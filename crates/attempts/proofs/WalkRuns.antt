@@ -1,8 +1,12 @@
 -- the steps that an attempt makes by its walk, as the code has it
-use Rattle.std.proofs.Common.{◌≡◌, ℕ, ◌-◌, ◌<◌, ◌≤◌, ◌^◌, ◌⊎◌, inl, inr, Bool, List, length, refl, sym, ◌∙◌, ap, subst, arith}
+use Rattle.std.proofs.Common.{◌≡◌, ℕ, ◌-◌, ◌<◌, ◌≤◌, ◌^◌, ◌⊎◌, inl, inr, Bool, true, List, length, refl, sym, ◌∙◌, ap, subst, arith}
 use Rattle.std.specs.Prelude.{IfSome, None, Option, Result, Some, Ok, Err}
 use Rattle.turns.specs.Attempt.{AttemptOf, seen_of}
 use Rattle.turns.specs.Seen.{Seen}
+use Rattle.turns.specs.Sharing.{IsUnused, with_request}
+use Rattle.turns.specs.Sharings.{preferring, seized_by, sharing_of}
+use Rattle.turns.specs.declared.lock_sharing.LockSharing.{LockSharing}
+use Rattle.turns.specs.declared.lock_sharing.LockSharing.TheVariants.{Preferring}
 use Rattle.turns.specs.System.{AreWords, System}
 use Rattle.turns.specs.declared.phase.Phase.{Phase}
 use Rattle.turns.specs.declared.phase.Phase.TheVariants.{Requests, Tests}
@@ -32,7 +36,7 @@ goes_far lock_word words most made (Requests lock) new wants ends = ends
 goes_far lock_word words most made (Tests word) new wants ends = ends
 goes_far lock_word words most made phase new wants ends = absurd wants
 
-module _ {Lock Job Reply Effect Decision ResumePoint : Type 0} (same : Lock → Lock → Bool) (reply_of : Decision → Reply) (effects_of : Decision → List Effect) (S : SystemWith Lock Job Reply Effect Decision) (ResumePointIsValid : Job → ResumePoint → Seen Lock → Type 0) (reads seizes : ℕ) (are : AreScripts same reply_of effects_of S ResumePointIsValid reads seizes) (k : ℕ) (few : k < 48) where
+module _ {Lock Job Reply Effect Decision ResumePoint : Type 0} (same : Lock → Lock → Bool) (reply_of : Decision → Reply) (effects_of : Decision → List Effect) (S : SystemWith Lock Job Reply Effect Decision) (ResumePointIsValid : Job → ResumePoint → Seen Lock → Type 0) (reads seizes : ℕ) (are : AreScripts same reply_of effects_of S ResumePointIsValid reads seizes) (is_preferring : S.sharing ≡ Preferring) (k : ℕ) (below_most : k < 48) where
   abbrev O : System
   O = system_with same reply_of effects_of S
 
@@ -42,16 +46,28 @@ module _ {Lock Job Reply Effect Decision ResumePoint : Type 0} (same : Lock → 
   abbrev outside : Doing → AttemptOf O
   outside p = attempt_of reply_of effects_of p
 
+  pub few : k < (sharing_of S.sharing).most
+  few = subst (λ (sharing : LockSharing). k < (sharing_of sharing).most) (sym is_preferring) below_most
+
+  pub unused : IsUnused (sharing_of S.sharing) 0
+  unused = subst (λ (sharing : LockSharing). IsUnused (sharing_of sharing) 0) (sym is_preferring) zero_unused
+
+  pub asking : (sharing_of S.sharing).asks ≡ true
+  asking = ap (λ (sharing : LockSharing). (sharing_of sharing).asks) is_preferring
+
   -- what it writes into the word of a lock
   abbrev pub seized_word : ℕ
-  seized_word = the_held_word O are.is_system reads seizes are.asks k few zero_unused
+  seized_word = the_held_word O are.is_system reads seizes are.asks k few unused asking
+
+  pub seized_word_is : (word : ℕ) → word ≡ seized_by k (with_request preferring k 0) → word ≡ seized_word
+  seized_word_is word is = is ∙ ap (λ (sharing : LockSharing). (sharing_of sharing).taken k (with_request (sharing_of sharing) k 0)) (sym is_preferring)
 
   module _ (old : Doing) (valid : IsValid same reply_of effects_of S ResumePointIsValid reads seizes old) (wants : WantsNext old.phase) (most : ℕ) (words after : List ℕ) (are_words : AreWords words) (below : seized_word < 2 ^ 64) (found : Result Decision (Wanted Lock ℕ)) (mid : Doing) (left : ℕ) (by : WalksBySteps same S ResumePointIsValid reads seizes most seized_word old words mid after found left) where
     abbrev comes : WalkOutcome Lock Decision
-    comes = comes_of O are.is_system reads seizes are.asks k few zero_unused (outside old) most words
+    comes = comes_of O are.is_system reads seizes are.asks k few unused asking (outside old) most words
 
-    so : Runs O are.is_system reads seizes are.asks k few zero_unused (outside old) most words
-    so = runs O are.is_system reads seizes are.asks k few zero_unused (outside old) most words wants valid.place.comes are_words below
+    so : Runs O are.is_system reads seizes are.asks k few unused asking (outside old) most words
+    so = runs O are.is_system reads seizes are.asks k few unused asking (outside old) most words wants valid.place.comes are_words below
 
     left_is : left ≡ comes.state.left
     left_is = ap (λ (x : WalkOutcome Lock Decision). x.state.left) by.walk
@@ -67,7 +83,7 @@ module _ {Lock Job Reply Effect Decision ResumePoint : Type 0} (same : Lock → 
       made : new ≡ continued (record then_seen { point = mid.point }) found
       made = goes ∙ ap (λ (x : Doing). continued x found) by.still
 
-      new_is : running.moment same reply_of effects_of S ResumePointIsValid new after ≡ run_on O are.is_system reads seizes are.asks k few zero_unused (outside old) most words
+      new_is : running.moment same reply_of effects_of S ResumePointIsValid new after ≡ run_on O are.is_system reads seizes are.asks k few unused asking (outside old) most words
       new_is = ap (λ (a : AttemptOf O). record { attempt = a; words = after }) (ap outside made ∙ went same reply_of effects_of S ResumePointIsValid then_seen mid.point found)
           ∙ ap (λ (x : WalkOutcome Lock Decision). record { attempt = continued_by O (outside old) x.state x.found; words = x.words }) by.walk
 

@@ -3,7 +3,7 @@ use Rattle.std.proofs.Common.{subst, ◌≡◌, ◌<◌, ◌^◌, ℕ, zero, suc
 use Rattle.std.specs.Prelude.{Option, Some, None, ◌==◌, Result, Ok, Err, slice_get, if◌then◌else◌}
 use Rattle.std.proofs.lemmas.Bool.{eq-eqb, eqb-true}
 use Rattle.std.proofs.lemmas.Option.{slice_get_cases, get_or_from_slice_get}
-use Rattle.turns.specs.Attempt.{AttemptOf, IsAnswerTo, change, goes_on, unless_denied, walks_on}
+use Rattle.turns.specs.Attempt.{AttemptOf, IsAnswerTo, answer_to_request, change, goes_on, unless_denied, walks_on}
 use Rattle.turns.specs.declared.act.Act.{Act}
 use Rattle.turns.specs.declared.act.Act.TheVariants as act_is
 use Rattle.turns.specs.Script.{Script, Ends, TestThen, SeizeThen, is_held, value_read, left, left_of_test, left_of_seizing, first_wanted, walk}
@@ -53,7 +53,7 @@ seized_there (suc zero) room word e = absurd cc
 seized_there (suc (suc left)) zero word e = absurd cc
 seized_there (suc (suc left)) (suc room) word e = (omega arith, free_zero word e)
 
-module _ (O : System) (self : (lock : O.Lock) → O.same lock lock ≡ true) (reads seizes k : ℕ) (few : k < O.sharing.most) (sharing : IsSharing O.sharing) (unused : IsUnused O.sharing 0) where
+module _ (O : System) (self : (lock : O.Lock) → O.same lock lock ≡ true) (reads seizes k : ℕ) (few : k < O.sharing.most) (sharing : IsSharing O.sharing) (unused : IsUnused O.sharing 0) (asking : O.sharing.asks ≡ true) where
   open O use {Lock, Decision}
 
   -- the word of a lock that nobody else requests or holds, once actor k requests it, and once it
@@ -69,17 +69,23 @@ module _ (O : System) (self : (lock : O.Lock) → O.same lock lock ≡ true) (re
 
   -- the only actor that requests a lock that nobody holds may go on
   pub asked_free : O.sharing.judged k asked ≡ Free
-  asked_free = sharing.alone_free k asked few (sharing.asked_is k 0 few unused.is_word) (sharing.asked_holder k 0 few unused.is_word ∙ unused.free) alone where
+  asked_free = sharing.alone_free k asked few (sharing.asked_is k 0 asking few unused.is_word) (sharing.asked_holder k 0 asking few unused.is_word ∙ unused.free) alone where
     alone : (j : ℕ) → j < O.sharing.most → O.sharing.requests j asked ≡ true → j ≡ k
-    alone j below e = elim (sharing.asked_requests k 0 few unused.is_word j below e) [ inl own ↦ own | inr other ↦ (let none : O.sharing.requests j 0 ≡ false = unused.unasked j below in absurd cc) ]
+    alone j below e = elim (sharing.asked_requests k 0 asking few unused.is_word j below e) [ inl own ↦ own | inr other ↦ (let none : O.sharing.requests j 0 ≡ false = unused.unasked j below in absurd cc) ]
 
   -- a request for a lock whose word is 0
   pub asks : (b : AttemptOf O) (lock : Lock) (words : List ℕ) → slice_index words (O.lock_word lock) ≡ 0 → stepped O k (record { attempt = record b { phase = Requests lock }; words = words }) ≡ record { attempt = record b { phase = Seizes lock asked }; words = slice_set words (O.lock_word lock) asked }
-  asks b lock words there = ap by_found there ∙ ap by_judgement asked_free where
+  asks b lock words there = ap by_found there ∙ ap by_asking asking ∙ ap by_judgement asked_free where
     by_found : ℕ → Moment O
     by_found found = record {
-      attempt = change O (record b { phase = Requests lock }) (unless_denied (Asked (with_request O.sharing k found)) (O.sharing.judged k (with_request O.sharing k found)));
+      attempt = change O (record b { phase = Requests lock }) (answer_to_request O.sharing k found);
       words = slice_set words (O.lock_word lock) (with_request O.sharing k found);
+    }
+
+    by_asking : Bool → Moment O
+    by_asking asks_first = record {
+      attempt = change O (record b { phase = Requests lock }) (if asks_first then unless_denied (Asked asked) (O.sharing.judged k asked) else unless_denied Seized (O.sharing.judged k 0));
+      words = slice_set words (O.lock_word lock) asked;
     }
 
     by_judgement : Judgement → Moment O
@@ -128,10 +134,15 @@ module _ (O : System) (self : (lock : O.Lock) → O.same lock lock ≡ true) (re
   IsAnswerHere step answer = IsAnswerTo step answer
 
   -- the answers to a request and to a seize are of their kinds
-  asked_answer : (lock : Lock) (answer : Answer) → IsAnswerHere (act_is.Request lock) answer → (judgement : Judgement) → IsAnswerHere (act_is.Request lock) (unless_denied answer judgement)
-  asked_answer lock answer is judgement.Free = is
-  asked_answer lock answer is (judgement.Held holder) = tt
-  asked_answer lock answer is (judgement.Preferred other) = tt
+  asked_kind : (lock : Lock) (word : ℕ) (judgement : Judgement) → IsAnswerHere (act_is.Request lock) (unless_denied (Asked word) judgement)
+  asked_kind lock word judgement.Free = tt
+  asked_kind lock word (judgement.Held holder) = tt
+  asked_kind lock word (judgement.Preferred other) = tt
+
+  asked_answer : (lock : Lock) (found : ℕ) → IsAnswerHere (act_is.Request lock) (answer_to_request O.sharing k found)
+  asked_answer lock found =
+      let word = with_request O.sharing k found in
+      subst (λ (asks_first : Bool). IsAnswerHere (act_is.Request lock) (if asks_first then unless_denied (Asked word) (O.sharing.judged k word) else unless_denied Seized (O.sharing.judged k found))) (sym asking) (asked_kind lock word (O.sharing.judged k word))
 
   taken_answer : (lock : Lock) (expected found : ℕ) (as_expected : Bool) (judgement : Judgement) → IsAnswerHere (act_is.Seize lock expected) (if as_expected then Seized else unless_denied (Again found) judgement)
   taken_answer lock expected found true judgement = tt
@@ -201,7 +212,7 @@ module _ (O : System) (self : (lock : O.Lock) → O.same lock lock ≡ true) (re
         at false true is there later = record {
           made = suc (suc (made_later.made));
           left = (let above : 1 < state.left = (seized_there state.left (seizes - length state.seen.held) (slice_get words (O.lock_word lock)) there).0 in let then_left : state.left - 2 ≡ made_later.made + (plain script more after).state.left = made_later.left in omega arith);
-          steps = (tt, (asked_answer lock (Asked (with_request O.sharing k (slice_index words (O.lock_word lock)))) tt (O.sharing.judged k (with_request O.sharing k (slice_index words (O.lock_word lock)))), subst (λ (m : Moment O). LeadsTo O k (suc (made_later.made)) m last) (sym asking) (tt, (taken_answer lock asked between (between == asked) (O.sharing.judged k between), subst (λ (m : Moment O). LeadsTo O k made_later.made m last) (sym taking) made_later.steps))));
+          steps = (tt, (asked_answer lock (slice_index words (O.lock_word lock)), subst (λ (m : Moment O). LeadsTo O k (suc (made_later.made)) m last) (sym requesting) (tt, (taken_answer lock asked between (between == asked) (O.sharing.judged k between), subst (λ (m : Moment O). LeadsTo O k made_later.made m last) (sym taking) made_later.steps))));
         } where
           more : WalkState Lock
           more = with_lock state lock
@@ -233,8 +244,8 @@ module _ (O : System) (self : (lock : O.Lock) → O.same lock lock ≡ true) (re
           between : ℕ
           between = slice_index (slice_set words (O.lock_word lock) asked) (O.lock_word lock)
 
-          asking : stepped O k (record { attempt = record b { phase = Requests lock }; words = words }) ≡ record { attempt = record b { phase = Seizes lock asked }; words = slice_set words (O.lock_word lock) asked }
-          asking = asks b lock words found.1
+          requesting : stepped O k (record { attempt = record b { phase = Requests lock }; words = words }) ≡ record { attempt = record b { phase = Seizes lock asked }; words = slice_set words (O.lock_word lock) asked }
+          requesting = asks b lock words found.1
 
           set_again : slice_set (slice_set words (O.lock_word lock) asked) (O.lock_word lock) held_word ≡ after
           set_again = set_twice words (O.lock_word lock) asked held_word ∙ ap (slice_set words (O.lock_word lock)) (sym holds)

@@ -8,7 +8,6 @@ use Rattle.turns.specs.Sharing.{IsUnused}
 use Rattle.turns.specs.System.{AreWords, IsSystem, System}
 use Rattle.turns.specs.declared.answer.Answer.{Answer}
 use Rattle.turns.specs.declared.answer.Answer.TheVariants.{Value}
-use Rattle.turns.specs.declared.answer.Answer.TheVariants as answer
 use Rattle.turns.specs.declared.phase.Phase.{Phase}
 use Rattle.turns.specs.declared.phase.Phase.TheVariants.{Requests, Tests}
 use Rattle.attempts.specs.Validity.{IsValidInBounds}
@@ -41,9 +40,9 @@ module _ (O : System) (is : IsSystem O) (R H : ℕ) (asks : (job : O.Job) → O.
   pub self : (lock : Lock) → O.same lock lock ≡ true
   self lock = (is.same lock lock).1 refl
 
-  module _ (k : ℕ) (few : k < O.sharing.most) (unused : IsUnused O.sharing 0) where
+  module _ (k : ℕ) (few : k < O.sharing.most) (unused : IsUnused O.sharing 0) (asking : O.sharing.asks ≡ true) where
     abbrev pub the_held_word : ℕ
-    the_held_word = held_word O self R H k few is.sharing unused
+    the_held_word = held_word O self R H k few is.sharing unused asking
 
     abbrev pub walk_state_of : AttemptOf O → ℕ → WalkState Lock
     walk_state_of a left = record { seen = seen_of a; left = left; held_word = the_held_word }
@@ -68,4 +67,4 @@ module _ (O : System) (is : IsSystem O) (R H : ℕ) (asks : (job : O.Job) → O.
       steps = subst (λ (x : AttemptOf O). LeadsTo O k made_so.made (record { attempt = x; words = words }) (run_on a left words)) (stands_at a a.phase refl wants valid) made_so.steps;
     } where
       made_so : IsMade O k a (walk_state_of a left) words (walk O.same (seen_of a) (O.script a.job)) (comes_of a left words)
-      made_so = live_steps O self R H k few is.sharing unused a (O.script a.job) (walk_state_of a left) words are below refl (λ more grows. refl)
+      made_so = live_steps O self R H k few is.sharing unused asking a (O.script a.job) (walk_state_of a left) words are below refl (λ more grows. refl)

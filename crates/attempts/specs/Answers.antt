@@ -1,20 +1,15 @@
-use Rattle.std.specs.Prelude.{ℕ, ◌==◌, if◌then◌else◌}
-use Rattle.turns.specs.Attempt as turns
-use Rattle.turns.specs.Sharing.{with_request}
-use Rattle.turns.specs.Sharings.{preferring}
+use Rattle.std.specs.Prelude.{ℕ}
+use Rattle.turns.specs.Attempt.{answer_to_request, answer_to_seize}
+use Rattle.turns.specs.Sharing.{Sharing}
 use Rattle.turns.specs.declared.answer.Answer.{Answer}
 use Rattle.turns.specs.declared.answer.Answer.TheVariants as answer
 use Rattle.turns.specs.declared.phase.Phase.{Phase}
 use Rattle.turns.specs.declared.phase.Phase.TheVariants.{Requests, Seizes, Tests, Turns}
 
 -- the answer to actor k's next step in this phase, which found this number in its word
-abbrev pub answer_in : {Lock : Type 0} → Phase Lock ℕ → ℕ → ℕ → Answer
-answer_in (Requests lock) k found =
-    turns.unless_denied (answer.Asked (with_request preferring k found))
-    (preferring.judged k (with_request preferring k found))
-answer_in (Seizes lock expected) k found =
-    if found == expected then answer.Seized
-    else turns.unless_denied (answer.Again found) (preferring.judged k found)
-answer_in (Tests word) k found = answer.Value found
-answer_in Turns k found = answer.Turn found
-answer_in phase k found = answer.Done
+abbrev pub answer_in : {Lock : Type 0} → Sharing → Phase Lock ℕ → ℕ → ℕ → Answer
+answer_in sharing (Requests lock) k found = answer_to_request sharing k found
+answer_in sharing (Seizes lock expected) k found = answer_to_seize sharing k expected found
+answer_in sharing (Tests word) k found = answer.Value found
+answer_in sharing Turns k found = answer.Turn found
+answer_in sharing phase k found = answer.Done

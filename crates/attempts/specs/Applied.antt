@@ -4,8 +4,7 @@ use Rattle.turns.specs.Script.{value_read, walk}
 use Rattle.turns.specs.Seen.{AreReadWords, Seen}
 use Rattle.turns.specs.declared.answer.Answer.{Answer}
 use Rattle.turns.specs.declared.answer.Answer.TheVariants.{Value}
-use Rattle.turns.specs.declared.phase.Phase.{Phase}
-use Rattle.turns.specs.declared.phase.Phase.TheVariants.{Seizes, Tests, Turns}
+use Rattle.turns.specs.declared.phase.Phase.TheVariants.{Tests, Turns}
 use Rattle.turns.specs.declared.reading.Reading.{Reading}
 use Rattle.turns.specs.declared.wanted.Wanted.{Wanted}
 use Rattle.turns.specs.declared.wanted.Wanted.TheVariants.{Test}
@@ -16,10 +15,6 @@ use Rattle.attempts.specs.SystemWith.{SystemWith, system_with}
 abbrev pub FitsValue : Answer → Type 0
 FitsValue (Value value) = value < 2 ^ 64
 FitsValue answer = ⊤
-
--- the lock is seized next, with some word expected of it
-abbrev pub SeizesLock : {Lock : Type 0} → Phase Lock ℕ → Lock → Type 0
-SeizesLock phase lock = (expected : ℕ) × (phase ≡ Seizes lock expected)
 
 -- the attempt continued with the result of its walk: at its turn, or at what the walk needs next
 abbrev pub continued : {Lock Job Decision ResumePoint : Type 0}

@@ -1,12 +1,13 @@
 use Rattle.std.specs.Prelude.{ℕ, Bool, List}
 use Rattle.turns.specs.Script.{Script}
-use Rattle.turns.specs.Sharings.{preferring}
+use Rattle.turns.specs.Sharings.{sharing_of}
 use Rattle.turns.specs.System.{System, SystemOver, Whole, system_of}
+use Rattle.turns.specs.declared.clock.Clock.{Clock}
+use Rattle.turns.specs.declared.lock_sharing.LockSharing.{LockSharing}
 use Rattle.turns.specs.declared.operation.Operation.{Operation}
 
--- a system of jobs whose lock words are shared by preference, over the types of its locks, jobs,
--- replies, effects and decisions: all of it but the test of two locks, and the reply and effects
--- of a decision
+-- a system of jobs, over the types of its locks, jobs, replies, effects and decisions: all of it
+-- but the test of two locks, and the reply and effects of a decision
 pub record SystemWith (Lock Job Reply Effect Decision : Type 0) : Type 1 where
   pub IsJob : Job → Type 0
   pub State : Type 0
@@ -22,7 +23,9 @@ pub record SystemWith (Lock Job Reply Effect Decision : Type 0) : Type 1 where
   pub size : ℕ
   pub Protects : Lock → ℕ → Type 0
   pub lock_word : Lock → ℕ
+  pub sharing : LockSharing
   pub turn_word : ℕ
+  pub clock : Clock
   pub Shows : List ℕ → State → Type 0
 
 module _ {Lock Job Reply Effect Decision : Type 0} (same : Lock → Lock → Bool)
@@ -49,19 +52,19 @@ module _ {Lock Job Reply Effect Decision : Type 0} (same : Lock → Lock → Boo
     size = S.size;
     Protects = S.Protects;
     lock_word = S.lock_word;
-    sharing = preferring;
+    sharing = sharing_of S.sharing;
     turn_word = S.turn_word;
+    clock = S.clock;
     Shows = S.Shows;
   }
 
   abbrev pub system_with : SystemWith Lock Job Reply Effect Decision → System
   system_with S = system_of (over_with S)
 
--- a system without these parts
-abbrev pub without_decisions : {Lock Job Reply Effect : Type 0} →
-    (O : SystemOver Lock Job Reply Effect)
-    → SystemWith Lock Job Reply Effect O.Decision
-without_decisions O = record {
+-- a system without these parts, whose locks are shared so
+abbrev pub without_decisions : {Lock Job Reply Effect : Type 0} → LockSharing
+    → (O : SystemOver Lock Job Reply Effect) → SystemWith Lock Job Reply Effect O.Decision
+without_decisions sharing O = record {
   IsJob = O.IsJob;
   State = O.State;
   whole = O.whole;
@@ -76,6 +79,8 @@ without_decisions O = record {
   size = O.size;
   Protects = O.Protects;
   lock_word = O.lock_word;
+  sharing = sharing;
   turn_word = O.turn_word;
+  clock = O.clock;
   Shows = O.Shows;
 }

@@ -2,19 +2,19 @@
 //! word or the value for their contracts alone.
 
 ghost use Rattle.std.specs.Prelude.{◌≡◌, ◌<◌, ◌++◌, ◌∷◌, [], ℕ, IfNone, IfSome, length};
-ghost use Rattle.turns.specs.Attempt.{change, giving_back, operated, rest_of};
+ghost use Rattle.turns.specs.Attempt.{asked_in, change, denied_request, giving_back, operated, rest_of};
 ghost use Rattle.attempts.specs.Counting.{count_in, counted};
 ghost use Rattle.attempts.specs.WalkOnWords.{walk_on_words};
 ghost use Rattle.attempts.specs.Points.{GoesOnTo};
 ghost use Rattle.attempts.specs.Running.{WalksBySteps};
-ghost use Rattle.attempts.specs.Applied.{MayAskNext, MayWalk, SeizesLock};
+ghost use Rattle.attempts.specs.Applied.{MayAskNext, MayWalk};
 ghost use Rattle.attempts.specs.Of.{AreScripts, CanWalk, MayContinue, MayRead, ResumePointHolds, IsValid, Applies, WalksOn, attempt_of, system_of};
 
 use crate::attempt::AttemptOf;
 use crate::next_step::next_effect;
 use crate::scripts::Scripts;
 use crate::seen::Seen;
-use crate::starting::give_back;
+use crate::starting::{give_back, give_up};
 use turns::{Answer, Phase, Reading, Wanted};
 
 /// Calls `Scripts::walk`, with its requirements gathered into one clause.
@@ -158,6 +158,26 @@ fn apply_changed<S: Scripts<READINGS, HELD>, const READINGS: usize, const HELD: 
     }
 }
 
+/// The request for the lock was denied: withdraws it next. Where requests seize at once there is
+/// nothing to withdraw, and the attempt gives back.
+fn deny_request<S: Scripts<READINGS, HELD>, const READINGS: usize, const HELD: usize>(
+    attempt: &mut AttemptOf<S, READINGS, HELD>,
+    setting: &S::Setting,
+    lock: S::Lock,
+)
+    ensures denied { let O = system_of S.Lock.eq S.Scripts setting.now in
+        attempt_of S.Scripts attempt.new
+        ≡ denied_request O (attempt_of S.Scripts attempt.old) lock }
+    ensures point { ResumePointHolds S.Scripts setting.now attempt.new }
+    ensures count { attempt.new.count ≡ attempt.old.count }
+{
+    if S::sharing(setting).asks() {
+        attempt.deny(lock);
+    } else {
+        give_up::<S, READINGS, HELD>(attempt);
+    }
+}
+
 /// The lock was denied: another actor holds it, or is preferred.
 fn apply_denied<S: Scripts<READINGS, HELD>, const READINGS: usize, const HELD: usize>(
     attempt: &mut AttemptOf<S, READINGS, HELD>,
@@ -169,31 +189,29 @@ fn apply_denied<S: Scripts<READINGS, HELD>, const READINGS: usize, const HELD: u
     ensures preferred { (other : ℕ) → Applies S.Lock.eq S.Scripts setting.now
         (Answer.Preferred other) attempt.old attempt.new }
 {
-    if let Some(lock) = attempt.lock_to_acquire() {
-        attempt.deny(lock);
+    let phase = attempt.phase;
+    match phase {
+        Phase::Requests(lock) => deny_request::<S, READINGS, HELD>(attempt, setting, lock),
+        Phase::Seizes(lock, _) => attempt.deny(lock),
+        _ => {}
     }
 }
 
-/// The lock that the attempt's next step seizes. A valid attempt has room for it. None in other
-/// phases.
-pub fn to_seize<S: Scripts<READINGS, HELD>, const READINGS: usize, const HELD: usize>(
+/// The lock that the attempt's next step requests or seizes. A valid attempt has room for it. None
+/// in other phases.
+pub fn to_acquire<S: Scripts<READINGS, HELD>, const READINGS: usize, const HELD: usize>(
     attempt: &AttemptOf<S, READINGS, HELD>,
     setting: &S::Setting,
 ) -> Option<S::Lock>
     requires scripts { AreScripts S.Lock.eq S.Scripts setting.now }
     requires valid { IsValid S.Lock.eq S.Scripts setting.now attempt.now }
-    ensures seizes { IfSome result (SeizesLock attempt.now.phase) }
+    ensures lock { result ≡ asked_in attempt.now.phase }
     ensures room { IfSome result (λ lock. length attempt.now.held < HELD) }
     ensures walk { IfSome result (λ lock. CanWalk S.Lock.eq S.Scripts setting.now
         (record attempt.now { held = attempt.now.held ++ lock ∷ [] })) }
-    ensures none { IfNone result ((lock : S.Lock) → SeizesLock attempt.now.phase lock → ⊥) }
 {
-    let phase = attempt.phase;
-    if let Phase::Seizes(lock, _) = phase {
-        Some(lock)
-    } else {
-        None
-    }
+    let _ = setting;
+    attempt.lock_to_acquire()
 }
 
 /// The lock was seized: the attempt holds it and walks on.
@@ -204,7 +222,7 @@ fn apply_seized<S: Scripts<READINGS, HELD>, const READINGS: usize, const HELD: u
     requires { MayContinue S.Lock.eq S.Scripts setting.now attempt.old }
     ensures { Applies S.Lock.eq S.Scripts setting.now Answer.Seized attempt.old attempt.new }
 {
-    if let Some(lock) = to_seize::<S, READINGS, HELD>(attempt, setting) {
+    if let Some(lock) = to_acquire::<S, READINGS, HELD>(attempt, setting) {
         attempt.hold(lock);
         walk_on::<S, READINGS, HELD>(attempt, setting);
     }

@@ -5,7 +5,7 @@
 //! meanwhile.
 #![tactic(auto)]
 
-pub use answering::{apply, to_seize, walk_by_steps, walk_on};
+pub use answering::{apply, to_acquire, walk_by_steps, walk_on};
 pub use attempt::{Attempt, AttemptOf};
 pub use next_step::{is_done, next, next_effect, next_past_turn, next_without_lock, outcome};
 pub use past_turn::apply_past_turn;

@@ -12,8 +12,8 @@ ghost use Rattle.attempts.specs.Of.{AreScripts, CanWalk, MayContinue, IsValid, a
 use crate::answering::walk_by_steps;
 use crate::attempt::AttemptOf;
 use crate::scripts::Scripts;
-use turns::Wanted;
 use turns::lock_word::{asked_by, seized_by};
+use turns::{LockSharing, Wanted};
 
 /// Does nothing. Called for its contract: each word fits in 64 bits.
 fn are_words(_words: &[u64])
@@ -52,6 +52,7 @@ fn make_steps<S: Scripts<READINGS, HELD>, const READINGS: usize, const HELD: usi
     most: u32,
 ) -> u32
     requires may { MayContinue S.Lock.eq S.Scripts setting.now attempt.old }
+    requires sharing { (S.system setting.now).sharing ≡ LockSharing.Preferring }
     requires actor { actor < 48 }
     ensures { Runs S.Lock.eq S.reply_of S.effects_of (S.system setting.now)
         (S.ResumePointIsValid setting.now)
@@ -70,8 +71,8 @@ fn make_steps<S: Scripts<READINGS, HELD>, const READINGS: usize, const HELD: usi
 }
 
 /// Makes the attempt's next steps on the words, at most `most`, and returns how many it made.
-/// Nobody else may change the words meanwhile. `actor` is the number of the attempt's actor, below
-/// 48: a lock's word has a request bit for each of 48 actors.
+/// Nobody else may change the words meanwhile. `actor` is the number of the attempt's actor. The
+/// locks have to be shared by preference, for which an actor's number is below 48.
 ///
 /// One walk makes all of the steps. It stops at the turn, at a lock that anyone holds or
 /// requests, at a word past the end of `words`, or when too few steps are left: a lock takes two, a
@@ -86,6 +87,7 @@ pub fn run<S: Scripts<READINGS, HELD>, const READINGS: usize, const HELD: usize>
     requires setting { S.IsSetting setting.now }
     requires scripts { AreScripts S.Lock.eq S.Scripts setting.now }
     requires valid { IsValid S.Lock.eq S.Scripts setting.now attempt.old }
+    requires sharing { (S.system setting.now).sharing ≡ LockSharing.Preferring }
     requires actor { actor < 48 }
     ensures steps { let O = system_of S.Lock.eq S.Scripts setting.now in
         LeadsTo O actor result

@@ -1,7 +1,7 @@
 ghost use Rattle.std.specs.Prelude.{◌≡◌, ◌<◌, ◌+◌, ◌^◌, Err, List, IfSome, slice_get};
 
 use crate::seen::Seen;
-use turns::Wanted;
+use turns::{LockSharing, Wanted};
 
 /// Jobs given as code. No script tests more than `READINGS` words or seizes more than `HELD`
 /// locks.
@@ -53,6 +53,10 @@ pub trait Scripts<const READINGS: usize, const HELD: usize> {
     // read. By default it says nothing, as for `()`.
     ghost ResumePointIsValid: { Self.Setting → Self.Job → Self.ResumePoint → WhatIsSeen Self.Lock
         → Type 0 } = { λ _ _ _ _. Unit {0} };
+
+    /// How actors share the words of locks.
+    fn sharing(setting: &Self::Setting) -> LockSharing
+        ensures { result ≡ (system setting.now).sharing };
 
     /// The lock that the job seizes first. It doesn't depend on the setting.
     fn first(job: &Self::Job) -> Self::Lock

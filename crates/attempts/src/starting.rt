@@ -79,7 +79,7 @@ pub(crate) fn give_back<S: Scripts<READINGS, HELD>, const READINGS: usize, const
 
 /// Gives up an attempt that is before its turn and has no request pending: drops its readings and
 /// its decision, and gives its locks back.
-fn give_up<S: Scripts<READINGS, HELD>, const READINGS: usize, const HELD: usize>(
+pub(crate) fn give_up<S: Scripts<READINGS, HELD>, const READINGS: usize, const HELD: usize>(
     attempt: &mut AttemptOf<S, READINGS, HELD>,
 )
     ensures frees { (setting : S.Setting) → let O = system_of S.Lock.eq S.Scripts setting in

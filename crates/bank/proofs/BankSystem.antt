@@ -7,13 +7,16 @@ use Rattle.turns.specs.Among.{IsIn}
 use Rattle.turns.specs.Bounds.{AreBounded, AllEndsHave}
 use Rattle.turns.specs.Operations.{FitsWord, applied}
 use Rattle.turns.specs.Script.{◌>>=◌, AsksAtMost, run, first_wanted}
-use Rattle.turns.specs.Sharing.{IsUnused}
-use Rattle.turns.specs.Sharings.{preferring}
+use Rattle.turns.specs.Sharing.{IsSharing, IsUnused}
+use Rattle.turns.specs.Sharings.{sharing_of}
 use Rattle.turns.specs.System.{AreWords, DecidesAs, DecidesUnder, IsSystem, IsUnder, KeepsTo, MayMake, perform, perform_all}
 use Rattle.turns.specs.declared.operation.Operation.{Operation}
 use Rattle.turns.specs.declared.operation.Operation.TheVariants.{Add, Sub}
 use Rattle.turns.specs.declared.wanted.Wanted.TheVariants.{Seize}
 use Rattle.turns.proofs.OwnSystem.{added_is, decides_if, either_has, index_other, index_same, makes_more, makes_none, same_number, subtracted_is, under_its_lock, zero_at, zeros_below}
+use Rattle.turns.specs.declared.lock_sharing.LockSharing.{LockSharing}
+use Rattle.turns.specs.declared.lock_sharing.LockSharing.TheVariants.{Preferring, Plain}
+use Rattle.turns.proofs.Plain.{plain_is}
 use Rattle.turns.proofs.Preferring.{preferring_is, zero_unused}
 use Rattle.bank.specs.Bank.{Balances, with_balance, credited, debited, fits, may_move, done_if, whole}
 use Rattle.bank.specs.System.{Effect, Shows, effects_of, or_refuse, balance_of, script, first_account, IsJob, accounts, opening_words, bank}
@@ -24,6 +27,15 @@ use Rattle.bank.specs.declared.job.Job.TheVariants.{Deposit, Withdraw, Transfer,
 use Rattle.bank.specs.declared.job.Reply.TheVariants.{Done, Refused, Has}
 use Rattle.bank.specs.declared.opening.Opening.{Opening}
 use Rattle.bank.specs.declared.opening.TheConstants.{SHARD_SIZE}
+
+-- each way to share a lock is a sharing, in which nobody holds or requests a lock whose word is 0
+sharing_is : (sharing : LockSharing) → IsSharing (sharing_of sharing)
+sharing_is Preferring = preferring_is
+sharing_is Plain = plain_is
+
+zero_is_unused : (sharing : LockSharing) → IsUnused (sharing_of sharing) 0
+zero_is_unused Preferring = zero_unused
+zero_is_unused Plain = record { is_word = omega arith; free = refl; unasked = λ j few. refl }
 
 -- the balances in the opening words
 opening_at : (count value n : ℕ) (rest : List ℕ) → n < count → value ≡ slice_index (replicate count value ++ rest) n
@@ -137,12 +149,12 @@ module _ (opening : Opening) where
   opens_zero : (n : ℕ) → slice_index (opening_words opening) (accounts opening + n) ≡ 0
   opens_zero n = past_opening (accounts opening) opening.balance (accounts opening + n) n (replicate (opening.shards + 1) 0) refl ∙ zero_at (opening.shards + 1) n
 
-  opens_unused : (shard : ℕ) → IsUnused preferring (slice_index (opening_words opening) (accounts opening + shard))
-  opens_unused shard = subst (IsUnused preferring) (sym (opens_zero shard)) zero_unused
+  opens_unused : (shard : ℕ) → IsUnused (sharing_of opening.sharing) (slice_index (opening_words opening) (accounts opening + shard))
+  opens_unused shard = subst (IsUnused (sharing_of opening.sharing)) (sym (opens_zero shard)) (zero_is_unused opening.sharing)
 
   pub bank_system : opening.balance < 2 ^ 64 → IsSystem (bank opening)
   bank_system small = record {
-    sharing = preferring_is;
+    sharing = sharing_is opening.sharing;
     same = same_number;
     words = record {
       one_lock_word = λ a b isa isb e. omega arith;

@@ -1,7 +1,7 @@
 use Rattle.std.specs.Prelude.{◌≡◌, ℕ, ◌+◌, ◌*◌, ◌/◌, ◌<◌, ◌==◌, nat_le, Bool, List, [], ◌∷◌, ◌++◌, replicate, slice_index, ⊤}
 use Rattle.turns.specs.Deciding.{decide_if}
 use Rattle.turns.specs.Script.{Script, Ends, ◌>>=◌, ◌>>◌, seize, test}
-use Rattle.turns.specs.Sharings.{preferring}
+use Rattle.turns.specs.Sharings.{sharing_of}
 use Rattle.turns.specs.System.{System, SystemOver, system_of}
 use Rattle.turns.specs.declared.operation.Operation.{Operation}
 use Rattle.turns.specs.declared.operation.Operation.TheVariants.{Add, Sub}
@@ -110,8 +110,9 @@ bank_over opening = record {
   size = accounts opening + (opening.shards + 1);
   Protects = Protects opening;
   lock_word = lock_word opening;
-  sharing = preferring;
+  sharing = sharing_of opening.sharing;
   turn_word = accounts opening + opening.shards;
+  clock = opening.clock;
   Shows = Shows opening;
 }
 

@@ -3,6 +3,7 @@
 ghost use Rattle.std.specs.Prelude.{◌≡◌, ◌≤◌, ◌<◌, ◌+◌, ◌*◌, ◌^◌, ℕ, List, slice_index};
 ghost use Rattle.turns.specs.Law.{IsLegal, Lawful, holder_at};
 ghost use Rattle.turns.specs.Runs.{Move, AreMoves, run_of};
+ghost use Rattle.turns.specs.Sharings.{sharing_of};
 ghost use Rattle.turns.specs.World.{Record, World, after};
 ghost use Rattle.bank.specs.Bank.{all_have};
 ghost use Rattle.bank.specs.Sums.{deposited, total, withdrawn};
@@ -23,11 +24,12 @@ impl Family for Banks {
     ghost system = { bank };
 }
 
-/// Whatever up to 48 actors do, and in whatever order they make their steps, each job acts as if
-/// done whole at its turn.
+/// Whatever as many actors as may share a lock do, and in whatever order they make their steps,
+/// each job acts as if done whole at its turn.
 pub fn every_run_of_the_bank_is_lawful()
     ensures { (opening : Opening) (count : ℕ) (moves : List (Move Job)) →
-        opening.balance < 2 ^ 64 → count ≤ 48 → AreMoves (bank opening) moves →
+        opening.balance < 2 ^ 64 → count ≤ (sharing_of opening.sharing).most →
+        AreMoves (bank opening) moves →
         Lawful (bank opening) (run_of (bank opening) count moves) }
 {
     laws::every_run_is_lawful::<Banks>();

@@ -2,14 +2,15 @@
 //! opens.
 
 ghost use Rattle.std.specs.Prelude.{◌≡◌, ◌≤◌, ◌<◌, ◌+◌, ◌^◌, IfSome, slice_get};
+ghost use Rattle.bank_desks.specs.Shards.{shards_of};
 
 use crate::walks::{balance_of, fits, lock_word, or_refuse};
 use attempts::{Scripts, Seen};
 use bank::{Decision, Effect, Job, Opening, Reply, SHARD_SIZE};
-use desk_attempts::{Attempts, OnWords};
+use desk_attempts::{Attempts, Groups, OnWords};
 use std::alloc::{AllocError, Global};
 use std::ops::Range;
-use turns::{Operation, Wanted};
+use turns::{Clock, LockSharing, Operation, Wanted};
 
 /// The scripts of the bank's jobs, as walks.
 pub struct BankScripts;
@@ -36,13 +37,17 @@ impl Scripts<2, 2> for BankScripts {
 
     type ResumePoint = ();
 
-    ghost system = { λ opening. without_decisions (bank_over opening) };
+    ghost system = { λ opening. without_decisions opening.sharing (bank_over opening) };
 
     ghost reply_of = { reply_of };
 
     ghost effects_of = { effects_of };
 
     ghost IsSetting = { λ opening. opening.balance < 2 ^ 64 };
+
+    fn sharing(opening: &Opening) -> LockSharing {
+        opening.sharing
+    }
 
     fn first(job: &Job) -> u32 {
         match job {
@@ -102,12 +107,26 @@ impl Scripts<2, 2> for BankScripts {
     }
 }
 
+/// The shards as groups of words.
+fn shards(opening: &Opening) -> Groups
+    ensures { result ≡ shards_of opening.now }
+{
+    Groups {
+        count: opening.shards,
+        each: SHARD_SIZE,
+    }
+}
+
 impl OnWords<2, 2> for BankScripts {
     ghost use Rattle.bank.proofs.BankSystem.{bank_bounded, bank_system};
+    ghost use Rattle.bank_desks.specs.Shards.{shards_have_places, shards_of};
+    ghost use Rattle.desk_attempts.specs.Groups.{places_of};
 
     type Kept = Opening;
 
     ghost kept = { λ opening. opening };
+
+    ghost places = { λ opening. places_of (shards_of opening) };
 
     fn keep(opening: &Opening) -> Opening {
         *opening
@@ -125,6 +144,14 @@ impl OnWords<2, 2> for BankScripts {
         opening.account_count() + opening.shards as usize + 1
     }
 
+    fn place(opening: &Opening, word: usize) -> usize {
+        shards(opening).place(word)
+    }
+
+    fn place_count(opening: &Opening) -> usize {
+        shards(opening).place_count()
+    }
+
     fn initial(alloc: Global, opening: &Opening) -> Result<Vec<u64>, AllocError> {
         let mut words = vec![in alloc; opening.balance; opening.account_count()]?;
         words.resize(Self::size(opening), 0)?;
@@ -133,6 +160,10 @@ impl OnWords<2, 2> for BankScripts {
 
     fn turn_word(opening: &Opening) -> usize {
         opening.account_count() + opening.shards as usize
+    }
+
+    fn clock(opening: &Opening) -> Clock {
+        opening.clock
     }
 
     fn lock_word(opening: &Opening, shard: u32) -> usize {
@@ -152,4 +183,6 @@ impl OnWords<2, 2> for BankScripts {
       asks = λ job right. (bank_bounded opening).asks job right;
       stays_valid = λ _ _ _ _ _ _. tt;
     } };
+
+    ghost are_places = { λ opening _. shards_have_places opening };
 }

@@ -7,7 +7,7 @@ ghost use Rattle.slots.specs.System.{IsJob};
 
 mod banks;
 
-use crate::timing::nanoseconds_each;
+use crate::timing::{nanoseconds_each, sum};
 use banks::{Banks, LockedBanks};
 use desks::Room;
 use slot_desks::SlotJobs;
@@ -20,7 +20,7 @@ use std::sync::{Mutex, Wait};
 use std::thread::Threads;
 use std::time::Instant;
 use std::{io, thread};
-use workers::{Yielding, persist};
+use workers::{Pausing, persist};
 
 /// A worker that does jobs of the slots.
 trait Clerk {
@@ -73,7 +73,7 @@ struct AtDesk<'a> {
 impl Clerk for AtDesk<'_> {
     fn do_job(&mut self, number: u64, job: Job) -> Option<UpToTwo<u32>> {
         self.desk.assign(number, job);
-        let told = persist(self.room, &(), &mut self.desk, &Yielding)?;
+        let told = persist(self.room, &(), &mut self.desk, &Pausing::LONG)?;
         Some(told.reply.slots())
     }
 }
@@ -94,12 +94,6 @@ impl<R: Wait> Clerk for (&R, &LockedBanks) {
     }
 }
 
-/// The number of jobs that all threads have done.
-fn all_of(done: &[u64]) -> u64 {
-    done.iter()
-        .fold(0, |all: u64, jobs| all.saturating_add(*jobs))
-}
-
 /// Has `count` desks do `jobs` jobs each, on threads of their own. Returns the number of jobs
 /// done.
 fn at_desks<R: Threads + Sync>(rt: &R, alloc: Global, count: u32, jobs: u32) -> io::Result<u64>
@@ -116,7 +110,7 @@ fn at_desks<R: Threads + Sync>(rt: &R, alloc: Global, count: u32, jobs: u32) -> 
             work(&mut AtDesk { room, desk }, jobs)
         },
     )?;
-    Ok(all_of(&done))
+    Ok(sum(&done))
 }
 
 /// Has `count` threads do `jobs` jobs each, under one lock. Returns the number of jobs done.
@@ -133,7 +127,7 @@ fn behind_lock<R: Threads + Wait + Sync>(
         count as usize,
         &|_| -> u64 { work(&mut (rt, &banks), jobs) },
     )?;
-    Ok(all_of(&done))
+    Ok(sum(&done))
 }
 
 /// Has `count` threads do `jobs` jobs each, under a lock for each bank. Returns the number of jobs
@@ -151,7 +145,7 @@ fn behind_locks<R: Threads + Wait + Sync>(
         count as usize,
         &|_| -> u64 { work(&mut (rt, &banks), jobs) },
     )?;
-    Ok(all_of(&done))
+    Ok(sum(&done))
 }
 
 /// Measures all three, with 1000 * `thousands` jobs for each thread, and prints the times.

@@ -20,7 +20,7 @@ use std::time::Instant;
 use std::{io, thread};
 use xbar_core::{Event, Exchange};
 use xbar_equip::WORD_COUNT;
-use xbar_fabric::{Desk, Fabric, Kind};
+use xbar_fabric::{Answer, Desk, Fabric, Kind};
 use xbar_plan::Plan;
 
 /// Markers to run, each on a thread of its own: the plan of their office, their kinds, and the
@@ -33,15 +33,24 @@ struct Crew<'a> {
 }
 
 /// Makes the desk's next step and those after it that ask for no connector, or assigns its next
-/// job. A desk that has not ended a job for long gives back what it holds, and lets other threads
-/// run.
+/// job. A desk that is denied a connector gives back all that it holds, and waits.
 fn go_on(fabric: &Fabric, desk: &mut Desk, state: &mut State)
     requires { IsDeskOf desk.old fabric.now }
     ensures { IsDeskOf desk.new fabric.now }
 {
-    if desk.step(fabric).is_none() {
+    let Some(answer) = desk.step(fabric) else {
         let job = state.next_job(desk.marker());
         let _assigned = desk.assign(0, job);
+        return;
+    };
+    if let Answer::Held(_) | Answer::Preferred(_) = answer {
+        let _given = desk.give_back(fabric);
+        state.wait();
+        return;
+    }
+    // After a request that wasn't denied, the connector is seized next.
+    if let Answer::Asked(_) = answer {
+        state.count(1, false);
         return;
     }
     let more = desk.run(fabric, &mut ()) as u64;
@@ -49,10 +58,7 @@ fn go_on(fabric: &Fabric, desk: &mut Desk, state: &mut State)
     if has_ended {
         let _record = desk.record();
     }
-    if state.count(more.saturating_add(1), has_ended) {
-        let _given = desk.give_back(fabric);
-        thread::yield_now();
-    }
+    state.count(more.saturating_add(1), has_ended);
 }
 
 /// Has a desk go on `times` times, and then leave no connector held, which the others would be

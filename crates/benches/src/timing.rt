@@ -7,6 +7,13 @@ pub fn nanoseconds_each(time: Duration, threads: u32, events: u64) -> u128 {
     time.as_nanos().saturating_mul(u128::from(threads)) / u128::from(events.max(1))
 }
 
+/// The sum of numbers.
+pub fn sum(numbers: &[u64]) -> u64 {
+    numbers
+        .iter()
+        .fold(0, |sum: u64, number| sum.saturating_add(*number))
+}
+
 /// How much work was done: jobs ended, and steps made.
 #[derive(Clone, Copy, Default)]
 pub struct Tally {
@@ -31,10 +38,10 @@ impl Tally {
         all
     }
 
-    /// The times of a step and of a job in nanoseconds, if `threads` threads at once did this
-    /// together.
+    /// How long a step takes its thread, and how much time passes for a job, by whichever thread, if
+    /// `threads` threads at once did this together. In nanoseconds.
     pub fn paces(self, time: Duration, threads: u32) -> (u128, u128) {
         let step = nanoseconds_each(time, threads, self.steps);
-        (step, nanoseconds_each(time, threads, self.jobs))
+        (step, nanoseconds_each(time, 1, self.jobs))
     }
 }

@@ -1,5 +1,6 @@
 use crossbar5::Counted;
-use crossbar5_cli::{System, Work};
+use crossbar5_cli::System;
+use crossbar5_command::Work;
 use std::io;
 
 /// The system's error number for a file that doesn't exist.
@@ -21,7 +22,7 @@ impl<'p> System for PlanFile<'p> {
         }
     }
 
-    fn begin(&self, _work: Work<'_>) {}
+    fn begin(&self, _work: &Work) {}
 
     fn end(&self) {}
 }

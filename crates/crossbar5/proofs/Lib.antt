@@ -1,3 +1,5 @@
+pub mod PlanRefusals
+pub mod KindLetters
 pub mod RunRows
 pub mod ReachedRows
 pub mod Replays

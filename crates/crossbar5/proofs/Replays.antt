@@ -6,7 +6,7 @@ use Rattle.xbar_traffic.specs.Traffic.{IsTrafficOf}
 use Rattle.xbar_traffic.specs.declared.fault.RowFault.{RowFault}
 use Rattle.xbar_traffic.specs.declared.mode.Mode.TheVariants.{Replay}
 use Rattle.xbar_traffic.specs.declared.row.Row.{Row}
-use Rattle.crossbar5_answer.specs.declared.written.Written.{Written}
+use Rattle.crossbar5.specs.declared.written.Written.{Written}
 use Rattle.crossbar5.specs.Run.{IsReplayUnder, IsWrittenOf, LeavesOneHistory, outcome}
 
 -- what is written for the outcome of the traffic's rows is a replay of the traffic

@@ -8,8 +8,8 @@ use Rattle.xbar_traffic.specs.declared.fault.RowFault.TheVariants.{Marker}
 use Rattle.xbar_traffic.specs.declared.fault.TrafficFault.{TrafficFault}
 use Rattle.xbar_traffic.specs.declared.row.Row.{Row}
 use Rattle.xbar_moves.specs.Exchange.{Exchange, OfPlan}
-use Rattle.crossbar5_answer.specs.TrafficRefusal.{IsTrafficRefusal}
-use Rattle.crossbar5_answer.specs.declared.written.Written.{Written}
+use Rattle.crossbar5.specs.TrafficRefusal.{IsTrafficRefusal}
+use Rattle.crossbar5.specs.declared.written.Written.{Written}
 use Rattle.crossbar5.specs.Rows.{done, row_fault}
 use Rattle.crossbar5.specs.Run.{IsOneHistory, IsWrittenOf, Leaves, LeavesOneHistory, Outcome, RefusesTraffic, at_end, judged, outcome_from}
 

@@ -15,8 +15,8 @@ use Rattle.xbar_walk.specs.Stories.{Adds, IsStory, AgreesWith, ChangesAs}
 use Rattle.xbar_walk.specs.Walks.{Walk, walk_of_settling}
 use Rattle.xbar_walk.specs.declared.story.Story.{Story}
 use Rattle.xbar_walk.specs.declared.detail.Detail.{Detail}
-use Rattle.crossbar5_answer.specs.TrafficRefusal.{IsTrafficRefusal}
-use Rattle.crossbar5_answer.specs.declared.written.Written.{Written}
+use Rattle.crossbar5.specs.TrafficRefusal.{IsTrafficRefusal}
+use Rattle.crossbar5.specs.declared.written.Written.{Written}
 use Rattle.crossbar5.specs.Run.{Outcome, RefusesTraffic}
 use Rattle.crossbar5.specs.Walk.{IsWalkResult, opened, walk_after_row, walk_after_rows}
 

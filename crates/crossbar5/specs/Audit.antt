@@ -1,5 +1,4 @@
 use Rattle.std.specs.Prelude.{◌≡◌, ℕ, ◌*◌, Option, Some, None, List, [], ◌∷◌, ◌++◌, codes, decimal, length, take, slice_get, ⊤}
-use Rattle.xbar_plan_text.specs.Document.{plan_of}
 use Rattle.xbar_plan.specs.Tables.{Tables}
 use Rattle.xbar_office.specs.Audit.{IsFirstWrongReply}
 use Rattle.xbar_office.specs.Legal.{IsLegal, after}
@@ -10,10 +9,9 @@ use Rattle.xbar_report.specs.Sheet.{IsReport}
 use Rattle.xbar_report.specs.Text.{card_lines, closed_line, line_with, paths_line, record_line, records_text}
 use Rattle.xbar_report.specs.declared.counts.Counts.{Counts}
 use Rattle.xbar_report.specs.declared.report_fault.ReportFault.TheVariants.{Line, Turns}
-use Rattle.crossbar5_answer.specs.PlanRefusal.{IsAnswerOf}
-use Rattle.crossbar5_answer.specs.Refusal.{report_fault_line}
-use Rattle.crossbar5_answer.specs.declared.status.Status.{Status}
-use Rattle.crossbar5_answer.specs.declared.status.Status.TheVariants.{Fine, ReportRefused, FoundWrong}
+use Rattle.crossbar5.specs.Refusal.{report_fault_line}
+use Rattle.crossbar5.specs.declared.status.Status.{Status}
+use Rattle.crossbar5.specs.declared.status.Status.TheVariants.{Fine, ReportRefused, FoundWrong}
 use Rattle.crossbar5.specs.declared.finding.Finding.{Finding}
 use Rattle.crossbar5.specs.declared.finding.Finding.TheVariants.{NoReport, WrongTurn, WrongReply, WrongCounts, Legal}
 use Rattle.crossbar5.specs.declared.finding.OfficeCounts.{OfficeCounts}
@@ -104,7 +102,3 @@ pub record IsAuditUnder (plan : Tables) (records text : List ℕ) (status : Stat
       → finding ≡ Legal (length list) (counts_after plan list)
   pub text_is : text ≡ finding_text finding
   pub status_is : status ≡ finding_status finding
-
--- the text and the status are those of an audit of a text of records, with a plan's text
-abbrev pub IsAudit : List ℕ → List ℕ → List ℕ → Status → Type 0
-IsAudit plan records text status = IsAnswerOf IsAuditUnder (plan_of plan) records text status

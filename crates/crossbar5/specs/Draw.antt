@@ -10,21 +10,21 @@ use Rattle.xbar_page.specs.Page.{office_page}
 use Rattle.xbar_report.specs.Sheet.{IsReport}
 use Rattle.xbar_report.specs.Text.{records_text}
 use Rattle.xbar_report.specs.declared.counts.Counts.{Counts}
-use Rattle.crossbar5_answer.specs.declared.status.Status.{Status}
-use Rattle.crossbar5_answer.specs.declared.status.Status.TheVariants.{Fine}
+use Rattle.crossbar5.specs.declared.status.Status.{Status}
+use Rattle.crossbar5.specs.declared.status.Status.TheVariants.{Fine}
 use Rattle.crossbar5.specs.Audit.{AreRightCounts, IsAuditUnder, counts_after}
-use Rattle.crossbar5.specs.declared.look.Look.{Look}
-use Rattle.crossbar5.specs.declared.look.Look.TheVariants.{Text, Drawing, Page}
+use Rattle.crossbar5_task.specs.declared.forms.DrawForm.{DrawForm}
+use Rattle.crossbar5_task.specs.declared.forms.DrawForm.TheVariants.{Text, Svg, Page}
 
 -- the drawing of an office after its records; a page shows the office after each of them
-abbrev pub drawn : Look → Tables → List Path → List Record → List ℕ
+abbrev pub drawn : DrawForm → Tables → List Path → List Record → List ℕ
 drawn Text plan paths records = office_text plan paths records
-drawn Drawing plan paths records = office_drawing plan paths records
+drawn Svg plan paths records = office_drawing plan paths records
 drawn Page plan paths records = office_page plan records
 
 -- under a plan's tables, the text is a drawing of the office after a text of records, or says what
 -- is wrong with them; the status is that of an audit
-pub record IsDrawUnder (look : Look) (plan : Tables) (records text : List ℕ) (status : Status)
+pub record IsDrawUnder (form : DrawForm) (plan : Tables) (records text : List ℕ) (status : Status)
     : Type 0 where
   -- what an audit of these records writes
   pub told : List ℕ
@@ -33,6 +33,6 @@ pub record IsDrawUnder (look : Look) (plan : Tables) (records text : List ℕ) (
   pub legal : (list : List Record) (counts : Option Counts) → IsReport list counts
       → records ≡ records_text list counts → IsLegal plan list
       → AreRightCounts counts (counts_after plan list)
-      → (text ≡ drawn look plan (after plan list) list) × (status ≡ Fine)
+      → (text ≡ drawn form plan (after plan list) list) × (status ≡ Fine)
   -- otherwise the text is what the audit writes
   pub refused : status ≢ Fine → text ≡ told

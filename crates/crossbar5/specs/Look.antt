@@ -14,12 +14,12 @@ use Rattle.xbar_traffic.specs.declared.mode.Mode.TheVariants.{Replay}
 use Rattle.xbar_traffic.specs.declared.row.Row.{Row}
 use Rattle.xbar_walk.specs.Items.{walk_text_of}
 use Rattle.xbar_walk.specs.declared.detail.Detail.TheVariants.{JsonList}
-use Rattle.crossbar5_answer.specs.declared.status.Status.{Status}
+use Rattle.crossbar5.specs.declared.status.Status.{Status}
 use Rattle.crossbar5.specs.Rows.{done}
 use Rattle.crossbar5.specs.Run.{Leaves, Outcome, RefusesTraffic, outcome_status, reached}
 use Rattle.crossbar5.specs.Walk.{begun_at, walk_after_row}
-use Rattle.crossbar5.specs.declared.view.View.{View}
-use Rattle.crossbar5.specs.declared.view.View.TheVariants.{Words, Json, Drawing}
+use Rattle.crossbar5_task.specs.declared.forms.LookForm.{LookForm}
+use Rattle.crossbar5_task.specs.declared.forms.LookForm.TheVariants.{Words, Json, Svg}
 
 -- all markers are idle: nothing is left for a settling to do
 abbrev pub AreIdle : Exchange → Type 0
@@ -42,28 +42,28 @@ last_events plan e (row ∷ []) = row_events plan e row
 last_events plan e (row ∷ next ∷ rows) = last_events plan (done plan e row) (next ∷ rows)
 
 -- an office as it stands, under its plan, with these events
-abbrev pub shown : View → Tables → Exchange → List ℕ → List ℕ
+abbrev pub shown : LookForm → Tables → Exchange → List ℕ → List ℕ
 shown Words plan e events = look_words e
 shown Json plan e events = look_object (record { plan = plan; exchange = e }) events
-shown Drawing plan e events = office_drawing plan (after plan e.records) e.records
+shown Svg plan e events = office_drawing plan (after plan e.records) e.records
 
 -- what is written of an outcome: the fault line, or the office that is left, as it stands
-abbrev pub look_text : View → Tables → List ℕ → Outcome → List ℕ
-look_text view plan events (RefusesTraffic fault) = fault_line fault
-look_text view plan events (Leaves e) = shown view plan e events
+abbrev pub look_text : LookForm → Tables → List ℕ → Outcome → List ℕ
+look_text form plan events (RefusesTraffic fault) = fault_line fault
+look_text form plan events (Leaves e) = shown form plan e events
 
 -- the text and the status are those of what rows lead to, with the events of the last one
-pub record IsLookOf (view : View) (plan : Tables) (events : List ℕ) (came : Outcome)
+pub record IsLookOf (form : LookForm) (plan : Tables) (events : List ℕ) (came : Outcome)
     (text : List ℕ) (status : Status) : Type 0 where
-  pub text_is : text ≡ look_text view plan events came
+  pub text_is : text ≡ look_text form plan events came
   pub status_is : status ≡ outcome_status came
 
 -- under a plan's tables, the text and the status are those of a look: the traffic is refused if
 -- its replay is, and otherwise the office is shown that a replay settles next
-pub record IsLookUnder (view : View) (plan : Tables) (kinds : List Kind) (traffic text : List ℕ)
+pub record IsLookUnder (form : LookForm) (plan : Tables) (kinds : List Kind) (traffic text : List ℕ)
     (status : Status) : Type 0 where
   pub rows : List Row
   pub fault : Option RowFault
   pub read : IsTrafficOf Replay (csv_records default_config (strip_bom traffic)) rows fault
-  pub shown : IsLookOf view plan (last_events plan (fresh_exchange kinds) rows)
+  pub shown : IsLookOf form plan (last_events plan (fresh_exchange kinds) rows)
       (reached plan kinds rows fault) text status

@@ -1,7 +1,6 @@
 use Rattle.std.specs.Prelude.{◌≡◌, ◌⊎◌, ℕ, ◌+◌, ◌*◌, true, length, Option, Some, None, List, [], ◌∷◌, slice_get, ⊤}
 use Rattle.csv.specs.Reading.{default_config, records as csv_records, strip_bom}
 use Rattle.xbar_equip.specs.Word.{TurnWord}
-use Rattle.xbar_plan_text.specs.Document.{plan_of}
 use Rattle.xbar_plan.specs.Tables.{Tables}
 use Rattle.xbar_match.specs.Switches.{word_of}
 use Rattle.xbar_match.specs.Counts.{closed_line_fields, closed_switch_fields}
@@ -19,10 +18,10 @@ use Rattle.xbar_traffic.specs.declared.fault.TrafficFault.{TrafficFault}
 use Rattle.xbar_traffic.specs.declared.mode.Mode.TheVariants.{Replay}
 use Rattle.xbar_traffic.specs.declared.row.Row.{Row}
 use Rattle.xbar_report.specs.Text.{report_text}
-use Rattle.crossbar5_answer.specs.Faults.{IsMarkerCount}
-use Rattle.crossbar5_answer.specs.PlanRefusal.{IsAnswerOf, IsRefusedPlan}
-use Rattle.crossbar5_answer.specs.declared.status.Status.{Status}
-use Rattle.crossbar5_answer.specs.declared.status.Status.TheVariants.{Fine, TrafficRefused}
+use Rattle.crossbar5.specs.Faults.{IsMarkerCount}
+use Rattle.crossbar5.specs.PlanRefusal.{IsAnswerOf, IsRefusedPlan, PlanRead}
+use Rattle.crossbar5.specs.declared.status.Status.{Status}
+use Rattle.crossbar5.specs.declared.status.Status.TheVariants.{Fine, TrafficRefused}
 use Rattle.crossbar5.specs.Rows.{done, row_fault}
 
 -- the outcome of traffic: it is refused, or it leaves an office
@@ -108,13 +107,13 @@ pub record IsReplayUnder (plan : Tables) (kinds : List Kind) (traffic text : Lis
   pub history : LeavesOneHistory plan (outcome plan kinds rows fault)
   pub written : IsWrittenOf (outcome plan kinds rows fault) text status
 
--- the text and the status are those of a replay of traffic, with a plan's text and markers of
--- these kinds
-abbrev pub IsReplay : List ℕ → List Kind → List ℕ → List ℕ → Status → Type 0
+-- the text and the status are those of a replay of traffic, with a plan as it was read and markers
+-- of these kinds
+abbrev pub IsReplay : PlanRead → List Kind → List ℕ → List ℕ → Status → Type 0
 IsReplay plan kinds traffic text status =
-    IsAnswerOf (λ tables. IsReplayUnder tables kinds) (plan_of plan) traffic text status
+    IsAnswerOf (λ tables. IsReplayUnder tables kinds) plan traffic text status
 
 -- a replay is refused before any traffic is read: its markers aren't 1 to 48, or its plan is
 -- refused
-abbrev pub IsRefusedUnread : List ℕ → List Kind → Type 0
+abbrev pub IsRefusedUnread : PlanRead → List Kind → Type 0
 IsRefusedUnread plan kinds = ¬ IsMarkerCount (length kinds) ⊎ IsRefusedPlan plan

@@ -14,8 +14,17 @@ use Rattle.xbar_traffic.specs.declared.row.Row.TheVariants.{Assign, Steps, Call}
 use Rattle.xbar_walk.specs.Items.{assignment_item, walk_text_of}
 use Rattle.xbar_walk.specs.Walks.{Walk, walk_of_settling, walk_of_steps}
 use Rattle.xbar_walk.specs.declared.detail.Detail.{Detail}
-use Rattle.crossbar5_answer.specs.declared.status.Status.{Status}
+use Rattle.xbar_walk.specs.declared.detail.Detail.TheVariants as detail
+use Rattle.crossbar5_task.specs.declared.forms.WalkForm.{WalkForm}
+use Rattle.crossbar5_task.specs.declared.forms.WalkForm.TheVariants as form
+use Rattle.crossbar5.specs.declared.status.Status.{Status}
 use Rattle.crossbar5.specs.Run.{Leaves, Outcome, RefusesTraffic, outcome, outcome_status}
+
+-- how a walk of this form describes events
+abbrev pub detail_of : WalkForm → Detail
+detail_of form.Each = detail.Each
+detail_of form.Short = detail.Short
+detail_of form.Json = detail.JsonLines
 
 -- a walk that begins in this office, of which nothing is described yet
 abbrev pub begun_at : Detail → Tables → Exchange → Walk

@@ -7,11 +7,11 @@ ghost use Rattle.xbar_office.specs.declared.reply.Record.{Record as TheRecord};
 ghost use Rattle.xbar_report.specs.Sheet.{IsReport};
 ghost use Rattle.xbar_report.specs.Text.{records_text};
 ghost use Rattle.xbar_report.specs.declared.counts.Counts.{Counts as TheCounts};
-ghost use Rattle.crossbar5_answer.specs.Refusal.{ReportsFaultOf};
-ghost use Rattle.crossbar5.specs.Audit.{AreRightCounts, IsAuditUnder, IsFoundIn, IsFoundOf, finding_status, finding_text, righted, counts_after};
+ghost use Rattle.crossbar5.specs.Refusal.{ReportsFaultOf};
+ghost use Rattle.crossbar5.specs.Audit.{AreRightCounts, IsAuditUnder, IsFoundIn, IsFoundOf, finding_status, finding_text};
 
 use crate::finding::{Finding, OfficeCounts};
-use crossbar5_answer::{Diagnostic, Written};
+use crate::{Diagnostic, Written};
 use std::alloc::{AllocError, Global};
 use xbar_diagnostics::report_diagnostic;
 use xbar_office::{AuditFault, Office, Record, Reply, audit};

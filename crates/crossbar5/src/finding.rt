@@ -1,6 +1,6 @@
 //! What an audit finds.
 
-use crossbar5_answer::Status;
+use crate::Status;
 use std::alloc::{AllocError, Global};
 use std::fmt;
 use xbar_office::Record;

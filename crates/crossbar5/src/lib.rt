@@ -1,30 +1,40 @@
 //! The engine of the program `crossbar5`. From a plan and traffic it makes the records of a
-//! replay, or a description of each step. From a plan and a text of records it makes an audit, or
-//! a drawing of the office.
+//! replay, a description of each step, or a look at the office. From a plan and a text of records
+//! it makes an audit, or a drawing of the office.
+//!
+//! Runs answer with a text and a status, and with a diagnostic if something is refused.
 #![tactic(auto)]
 
 pub use counted_io::{Counted, Sink, Source};
-pub use crossbar5_answer::{
-    Diagnostic, EngineFault, Input, Response, Status, Written, kinds_of, read_input, refused,
-};
-pub use engine::answer_task;
-pub use look::Look;
+pub use crossbar5_task::{DrawForm, LookForm, Task, WalkForm};
+pub use diagnostic::Diagnostic;
+pub use engine::do_task;
+pub use engine_fault::EngineFault;
+pub use input::{Input, read_input};
+pub use kinds::{kinds_for, kinds_of};
+pub use plan_source::PlanSource;
 pub use runs::run_replay;
-pub use task::Task;
-pub use view::View;
+pub use status::Status;
+pub use traffic_refusal::refused;
+pub use written::Written;
 pub use xbar_report::report;
-pub use xbar_walk::Detail;
 
 mod audit;
+mod diagnostic;
 mod draw;
 mod engine;
+mod engine_fault;
 mod finding;
+mod input;
+mod kinds;
 pub mod laws;
-mod look;
 mod looks;
+mod plan_source;
 mod rows;
 mod run;
 mod runs;
-mod task;
-mod view;
+mod status;
+mod tasks;
+mod traffic_refusal;
 mod walk;
+mod written;

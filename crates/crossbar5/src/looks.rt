@@ -6,7 +6,8 @@ ghost use Rattle.xbar_office.specs.Legal.{after};
 ghost use Rattle.xbar_office_drawing.specs.Drawing.{office_drawing as drawing_of};
 ghost use Rattle.xbar_traffic.specs.Row.{IsRow, mode_of};
 ghost use Rattle.xbar_traffic.specs.declared.mode.Mode.{Mode};
-ghost use Rattle.crossbar5_answer.specs.Faults.{IsMarkerCount};
+ghost use Rattle.crossbar5_task.specs.declared.forms.LookForm.{LookForm};
+ghost use Rattle.crossbar5.specs.Faults.{IsMarkerCount};
 ghost use Rattle.crossbar5.specs.Look.{BeginsWithComma, IsLookOf, IsLookUnder, last_events, row_events, shown as shown_of};
 ghost use Rattle.crossbar5.specs.Rows.{done, row_fault};
 ghost use Rattle.crossbar5.specs.Run.{outcome_by, outcome_from, reached};
@@ -14,9 +15,9 @@ ghost use Rattle.crossbar5.specs.Run.{outcome_by, outcome_from, reached};
 use crate::audit::office_after;
 use crate::rows::{do_row, do_rows};
 use crate::run::open;
-use crate::view::View;
 use crate::walk::walk_row;
-use crossbar5_answer::{Status, Written, refused};
+use crate::{Status, Written, refused};
+use crossbar5_task::LookForm;
 use std::alloc::{AllocError, Global};
 use xbar_core::{Exchange, Kind};
 use xbar_look::{look_json, look_words};
@@ -63,11 +64,11 @@ fn tell_row(
     Ok(None)
 }
 
-/// Does the last of some rows, with its events if the view shows them.
+/// Does the last of some rows, with its events if the form shows them.
 fn do_last(
     alloc: Global,
     office: &mut Exchange,
-    view: View,
+    form: LookForm,
     last: &Row,
     events: &mut String,
 ) -> Result<Option<MarkerFault>, AllocError>
@@ -78,21 +79,21 @@ fn do_last(
     ensures done { IfOk result (λ fault. fault ≡ None →
         office.new ≡
         record office.old { exchange = done office.old.plan office.old.exchange last.now }) }
-    ensures told { IfOk result (λ fault. fault ≡ None → view ≡ View.Json →
+    ensures told { IfOk result (λ fault. fault ≡ None → form ≡ LookForm.Json →
         string_bytes events.new ≡ row_events office.old.plan office.old.exchange last.now) }
 {
-    match view {
-        View::Json => tell_row(alloc, office, last, events),
-        View::Words | View::Drawing => do_row(office, last),
+    match form {
+        LookForm::Json => tell_row(alloc, office, last, events),
+        LookForm::Words | LookForm::Svg => do_row(office, last),
     }
 }
 
-/// Does rows one after another, as `do_rows` does, with the events of the last one if the view
+/// Does rows one after another, as `do_rows` does, with the events of the last one if the form
 /// shows them.
 fn do_and_tell(
     alloc: Global,
     office: &mut Exchange,
-    view: View,
+    form: LookForm,
     rows: &[Row],
     events: &mut String,
 ) -> Result<Option<TrafficFault>, AllocError>
@@ -103,7 +104,7 @@ fn do_and_tell(
         outcome_from office.old.plan office.old.exchange 1 rows.now None
         ≡ outcome_by fault office.new.exchange) }
     ensures plan { IfOk result (λ fault. fault ≡ None → office.new.plan ≡ office.old.plan) }
-    ensures told { IfOk result (λ fault. fault ≡ None → view ≡ View.Json →
+    ensures told { IfOk result (λ fault. fault ≡ None → form ≡ LookForm.Json →
         string_bytes events.new ≡ last_events office.old.plan office.old.exchange rows.now) }
 {
     let Some((last, before)) = rows.split_last() else {
@@ -112,7 +113,7 @@ fn do_and_tell(
     if let Some(fault) = do_rows(office, before)? {
         return Ok(Some(fault));
     }
-    match do_last(alloc, office, view, last, events)? {
+    match do_last(alloc, office, form, last, events)? {
         Some(why) => Ok(Some(TrafficFault {
             row: rows.len() as u64,
             fault: RowFault::Marker(why),
@@ -124,18 +125,18 @@ fn do_and_tell(
 /// The office as it stands.
 fn shown(
     alloc: Global,
-    view: View,
+    form: LookForm,
     office: &Exchange<'_>,
     events: &str,
 ) -> Result<Written, AllocError>
     ensures { IfOk result (λ written. (written.text.items
-        ≡ shown_of view office.now.plan office.now.exchange events.now)
+        ≡ shown_of form office.now.plan office.now.exchange events.now)
         × (written.status ≡ Status.Fine)) }
 {
-    let text = match view {
-        View::Words => look_words(alloc, office)?,
-        View::Json => look_json(alloc, office, events)?.into_bytes(),
-        View::Drawing => drawn(alloc, office)?.into_bytes(),
+    let text = match form {
+        LookForm::Words => look_words(alloc, office)?,
+        LookForm::Json => look_json(alloc, office, events)?.into_bytes(),
+        LookForm::Svg => drawn(alloc, office)?.into_bytes(),
     };
     Ok(Written {
         text,
@@ -158,26 +159,26 @@ fn show(
     alloc: Global,
     plan: &Plan,
     kinds: &[Kind],
-    view: View,
+    form: LookForm,
     traffic: &Traffic,
     bytes: &[u8],
 ) -> Result<Written, AllocError>
     requires kinds { IsMarkerCount (length kinds.now) }
     requires range { All IsRow traffic.now.rows.items }
     requires mode { All (λ row. mode_of row ≡ Mode.Replay) traffic.now.rows.items }
-    ensures { IfOk result (λ written. IsLookOf view plan.now
+    ensures { IfOk result (λ written. IsLookOf form plan.now
         (last_events plan.now (fresh_exchange kinds.now) traffic.now.rows.items)
         (reached plan.now kinds.now traffic.now.rows.items traffic.now.fault)
         written.text.items written.status) }
 {
     let mut office = open(alloc, plan, kinds)?;
     let mut events = String::new(alloc);
-    if let Some(fault) = do_and_tell(alloc, &mut office, view, &traffic.rows, &mut events)? {
+    if let Some(fault) = do_and_tell(alloc, &mut office, form, &traffic.rows, &mut events)? {
         return refused(alloc, Mode::Replay, bytes, fault);
     }
     match traffic.refusal() {
         Some(fault) => refused(alloc, Mode::Replay, bytes, fault),
-        None => shown(alloc, view, &office, &events),
+        None => shown(alloc, form, &office, &events),
     }
 }
 
@@ -186,16 +187,16 @@ pub fn look(
     alloc: Global,
     plan: &Plan,
     kinds: &[Kind],
-    view: View,
+    form: LookForm,
     bytes: &[u8],
 ) -> Result<Written, AllocError>
     requires { IsMarkerCount (length kinds.now) }
     ensures { IfOk result (λ written.
-        IsLookUnder view plan.now kinds.now bytes.now written.text.items written.status) }
+        IsLookUnder form plan.now kinds.now bytes.now written.text.items written.status) }
 {
     // Called only for their clauses.
     xbar_traffic::laws::rows_are_in_range();
     xbar_traffic::laws::rows_are_of_their_mode();
     let traffic = Traffic::read(alloc, Mode::Replay, bytes)?;
-    show(alloc, plan, kinds, view, &traffic, bytes)
+    show(alloc, plan, kinds, form, &traffic, bytes)
 }

@@ -5,11 +5,11 @@ ghost use Rattle.xbar_moves.specs.Exchange.{fresh_exchange};
 ghost use Rattle.xbar_moves.specs.Settling.{settled as settled_office};
 ghost use Rattle.xbar_traffic.specs.Row.{IsRow, mode_of};
 ghost use Rattle.xbar_traffic.specs.declared.mode.Mode.{Mode};
-ghost use Rattle.crossbar5_answer.specs.Faults.{IsMarkerCount};
+ghost use Rattle.crossbar5.specs.Faults.{IsMarkerCount};
 ghost use Rattle.crossbar5.specs.Run.{IsOneHistory, IsWrittenOf, Leaves, LeavesOneHistory, IsReplayUnder, outcome};
 
 use crate::rows::do_rows;
-use crossbar5_answer::{Status, Written, refused};
+use crate::{Status, Written, refused};
 use std::alloc::{AllocError, Global};
 use xbar_core::{Exchange, Kind, OpenFault};
 use xbar_match::{count_closed, count_paths};

@@ -1,20 +1,22 @@
-//! Replays that return only a status, without a diagnostic.
+//! Replays that write their text, and return only a status, without a diagnostic.
 
 ghost use Rattle.std.specs.Prelude.{◌≡◌, ◌≢◌, ◌↔◌, ◌⊎◌, Err, IfErr, IfOk, IfSome, List, OnOk, ℕ, length};
 ghost use Rattle.std.specs.Io.KnownBytes.{Appends, IsAtEnd, Keeps};
 ghost use Rattle.counted_io.specs.Counts.{HasFailed, ReadsUsedUp};
-ghost use Rattle.crossbar5_answer.specs.Faults.{ComesFirst, IsMarkerCount};
+ghost use Rattle.crossbar5.specs.Faults.{ComesFirst, IsMarkerCount};
+ghost use Rattle.xbar_plan_text.specs.Document.{plan_of};
 ghost use Rattle.crossbar5.specs.Run.{IsRefusedUnread, IsReplay};
 
-use crate::engine::answer_task;
-use crate::task::Task;
-use counted_io::{Sink, Source};
-use crossbar5_answer::{EngineFault, Status};
+use crate::engine::do_task;
+use crate::{EngineFault, PlanSource, Status};
+use counted_io::{Sink, Source, write_all};
+use crossbar5_task::Task;
 use std::alloc::Global;
 use xbar_core::Kind;
 
 /// Replays the traffic from the source, in an office with the plan of this text and markers of
-/// these kinds, as `answer_task` does. Returns only the status.
+/// these kinds, as `do_task` does, and writes the text to the sink once it is complete. How much was
+/// written before a `Device` fault is unspecified.
 pub fn run_replay<R: Source, W: Sink>(
     alloc: Global,
     plan: &[u8],
@@ -24,11 +26,11 @@ pub fn run_replay<R: Source, W: Sink>(
 ) -> Result<Status, EngineFault>
     ensures replay { IfOk result (λ status. (traffic text : List ℕ) ×
         IfSome (R.remaining source.old) (λ all. traffic ≡ all) ×
-        IsReplay plan.now kinds.now traffic text status ×
+        IsReplay (plan_of plan.now) kinds.now traffic text status ×
         Appends (W.contents sink.old) (W.contents sink.new) text) }
     ensures markers { (result ≡ Err EngineFault.Markers) ↔ ¬ IsMarkerCount (length kinds.now) }
-    ensures unread { IsRefusedUnread plan.now kinds.now → source.new ≡ source.old }
-    ensures end { OnOk result (¬ IsRefusedUnread plan.now kinds.now
+    ensures unread { IsRefusedUnread (plan_of plan.now) kinds.now → source.new ≡ source.old }
+    ensures end { OnOk result (¬ IsRefusedUnread (plan_of plan.now) kinds.now
         → IsAtEnd (R.remaining source.new)) }
     ensures long { result ≡ Err EngineFault.Long →
         ReadsUsedUp (R.read_count source.old) (R.read_count source.new) }
@@ -41,6 +43,8 @@ pub fn run_replay<R: Source, W: Sink>(
         → (R.failure_count source.new ≡ R.failure_count source.old)
         × (W.failure_count sink.new ≡ W.failure_count sink.old) }
 {
-    let answer = answer_task(alloc, Task::Replay { kinds }, plan, source, sink)?;
-    Ok(answer.status)
+    let plan = PlanSource::Text(plan);
+    let replay = do_task(alloc, Task::Replay, plan, kinds, source)?;
+    write_all(sink, &replay.text)?;
+    Ok(replay.status)
 }

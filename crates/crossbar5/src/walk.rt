@@ -8,14 +8,14 @@ ghost use Rattle.xbar_traffic.specs.declared.mode.Mode.{Mode};
 ghost use Rattle.xbar_traffic.specs.declared.row.Row.{Row as TheRow};
 ghost use Rattle.xbar_walk.specs.Stories.{AgreesWith, ChangesAs};
 ghost use Rattle.xbar_walk.specs.Walks.{Walk, walk_of_settling};
-ghost use Rattle.crossbar5_answer.specs.Faults.{IsMarkerCount};
+ghost use Rattle.crossbar5.specs.Faults.{IsMarkerCount};
 ghost use Rattle.crossbar5.specs.Rows.{done, no_marker_fault, assignment_fault, row_fault};
 ghost use Rattle.crossbar5.specs.Run.{Leaves, outcome};
 ghost use Rattle.crossbar5.specs.Walk.{IsWalkResult, IsWalkUnder, walk_after_row, whole_walk};
 
 use crate::rows::assign;
 use crate::run::open;
-use crossbar5_answer::{Status, Written, refused};
+use crate::{Status, Written, refused};
 use std::alloc::{AllocError, Global};
 use xbar_core::{Exchange, Kind};
 use xbar_office::Job;

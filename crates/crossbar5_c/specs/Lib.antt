@@ -1,3 +1,2 @@
 pub mod Answer
 pub mod Bytes
-pub mod Tasks

@@ -13,9 +13,7 @@ mod answer;
 mod answered;
 mod bytes;
 mod call;
-mod kinds;
 mod status;
-mod tasks;
 
 /// Does a task of the engine, with a plan's text, the letters of the markers' kinds, and the input.
 /// The letters are read for tasks with markers alone.

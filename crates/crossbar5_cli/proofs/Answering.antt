@@ -1,104 +1,78 @@
 -- What the engine answers, as the program reports it.
-use Rattle.std.proofs.Common.{◌≡◌, ◌≢◌, ◌∙◌, ◌⊎◌, [], ℕ, Bool, Bor, List, Option, None, Some, Result, Ok, Err, IfErr, IfOk, IfSome, IsTrue, MatchResult, OnOk, false, inl, inr, option_map, refl, subst, sym}
-use Rattle.std.specs.Io.KnownBytes.{Appends, Keeps}
+use Rattle.std.proofs.Common.{◌≡◌, ◌≢◌, ◌∙◌, ◌⊎◌, ℕ, Bool, Bor, Global, List, Option, None, Some, Result, Ok, Err, IfErr, IfOk, IfSome, IsTrue, OnOk, false, inl, inr, option_map, refl, subst, sym, String}
+use Rattle.std.specs.Io.KnownBytes.{Keeps}
 use Rattle.std.specs.IoError.{error_kind}
+use Rattle.std.specs.String.{string_bytes}
 use Rattle.std.specs.declared.io.Error.{Error}
 use Rattle.xbar_moves.specs.declared.kind.Kind.{Kind}
-use Rattle.crossbar5_answer.specs.Faults.{ComesFirst}
-use Rattle.crossbar5_answer.specs.Refusal.{ReportsFaultOf}
-use Rattle.crossbar5_answer.specs.declared.response.Response.{Response}
-use Rattle.crossbar5_answer.specs.declared.engine_fault.EngineFault.{EngineFault}
-use Rattle.crossbar5_answer.specs.declared.engine_fault.EngineFault.TheVariants.{Device, Long, Markers, Memory}
-use Rattle.crossbar5.specs.Task.{IsDone, output_of as task_output, reasons_of as task_reasons}
-use Rattle.crossbar5.specs.declared.task.Task.{Task as EngineTask}
-use Rattle.crossbar5_live.specs.Live.{IsLive}
+use Rattle.crossbar5.specs.Faults.{ComesFirst}
+use Rattle.crossbar5_cli.specs.declared.response.Response.{Response}
+use Rattle.crossbar5.specs.declared.engine_fault.EngineFault.{EngineFault}
+use Rattle.crossbar5.specs.declared.engine_fault.EngineFault.TheVariants.{Device, Long, Markers, Memory}
+use Rattle.crossbar5.specs.PlanRefusal.{PlanRead}
+use Rattle.crossbar5.specs.declared.written.Written.{Written}
+use Rattle.crossbar5.specs.Tasks.{HasItsMarkers, IsDone, IsUnreadTask}
+use Rattle.crossbar5_task.specs.declared.task.Task.{Task as EngineTask}
+use Rattle.xbar_plan_text.specs.Document.{plan_of}
+use Rattle.crossbar5_live.specs.Live.{IsLive, IsLiveUnread}
 use Rattle.crossbar5_command.specs.declared.ask.Ask.{Ask}
-use Rattle.crossbar5_endings.specs.Asks.{MayEndAsked, RefusesMarkers}
-use Rattle.crossbar5_endings.specs.Causes.{opening_fault}
-use Rattle.crossbar5_endings.specs.Endings.{ending_of_run}
-use Rattle.crossbar5_endings.specs.Named.{Files, IsFileFault, IsPlanFault, IsPlanNamed, NamesKinds, file_of, files_of, letters_of, name_in}
-use Rattle.crossbar5_endings.specs.Sentences.{End, FileName, reasons_of_run, sentence_on_plan_file, sentence_on_run, text_of}
-use Rattle.crossbar5_endings.specs.Printed.{IsPut, IsStderrText}
-use Rattle.crossbar5_endings.specs.declared.ending.Ending.{Ending}
-use Rattle.crossbar5_endings.specs.declared.ending.Ending.TheVariants.{Failed}
-use Rattle.crossbar5_endings.specs.declared.sentence.Sentence.{Sentence}
+use Rattle.crossbar5_command.specs.declared.ask.Work.{Work}
+use Rattle.crossbar5_command.specs.declared.ask.Work.TheVariants.{Live, Task}
+use Rattle.crossbar5_cli.specs.Asks.{MayEndAsked, RefusesMarkers}
+use Rattle.crossbar5_cli.specs.Causes.{opening_fault}
+use Rattle.crossbar5_cli.specs.Endings.{ending_of_run}
+use Rattle.crossbar5_cli.specs.Named.{Files, IsFileFault, IsPlanFault, IsPlanNamed, NamesKinds, files_of, name_in}
+use Rattle.crossbar5_cli.specs.Sentences.{End, FileName, reasons_of_run, sentence_on_plan_file, sentence_on_run, text_of}
+use Rattle.crossbar5_cli.specs.Printed.{IsPut, IsStderrText}
+use Rattle.crossbar5_cli.specs.declared.ending.Ending.{Ending}
+use Rattle.crossbar5_cli.specs.declared.ending.Ending.TheVariants.{Failed}
+use Rattle.crossbar5_cli.specs.declared.sentence.Sentence.{Sentence}
 use Rattle.crossbar5_cli.specs.Program.{DoesAsk, Errors}
 use Rattle.crossbar5_cli.specs.Runs.{IsEndAsAsked, IsEndOf, Streams, sentence_on_markers}
-use Rattle.crossbar5_cli.specs.Work.{HasMarkers, IsAnswer, IsDiagnosticOf, IsUnread, work_of}
-use Rattle.crossbar5_cli.specs.declared.work.Work.{Work}
-use Rattle.crossbar5_cli.specs.declared.work.Work.TheVariants.{Calls, Task}
+use Rattle.crossbar5_cli.specs.Work.{IsAnswer, IsDiagnosticOf, IsReady, IsUnread, IsWorkDone, LacksMarkers}
 
-task_answered : (task : EngineTask) (plan : List ℕ) (unread before after : Option (List ℕ)) (run : Result Response EngineFault)
-    → IfOk run (λ answer. (input : List ℕ) × (text : List ℕ) × IfSome unread (λ all. input ≡ all)
-    × IsDone task plan input text answer.status × Appends before after (task_output task answer.status text)
-    × (answer.reasons.items ≡ task_reasons task answer.status text))
-    → IfOk run (λ answer. IsAnswer (Task task) plan unread before after answer.status answer.reasons.items)
-task_answered task plan unread before after (Ok answer) h =
-    record { input = h.0; text = h.1; all_read = h.2; done = h.3; written = h.4; reasons_are = h.5 }
-task_answered task plan unread before after (Err fault) h = tt
+-- what is done of work of this kind is done
+pub task_done : (work : Work) (task : EngineTask) (letters : String Global) → work ≡ Task task letters → (kinds : List Kind)
+    (plan : PlanRead) (unread : Option (List ℕ)) (run : Result Written EngineFault)
+    → IfOk run (λ written. (input : List ℕ) × IfSome unread (λ all. input ≡ all)
+    × IsDone task kinds plan input written.text.items written.status)
+    → IfOk run (λ written. (input : List ℕ) × IfSome unread (λ all. input ≡ all)
+    × IsWorkDone work kinds plan input written.text.items written.status)
+task_done work task letters is kinds plan unread run h =
+    subst (λ (w : Work). IfOk run (λ written. (input : List ℕ) × IfSome unread (λ all. input ≡ all)
+    × IsWorkDone w kinds plan input written.text.items written.status)) (sym is) h
 
-pub task_answer : (work : Work) (task : EngineTask) → work ≡ Task task → (plan : List ℕ)
-    (unread before after : Option (List ℕ)) (run : Result Response EngineFault)
-    → IfOk run (λ answer. (input : List ℕ) × (text : List ℕ) × IfSome unread (λ all. input ≡ all)
-    × IsDone task plan input text answer.status × Appends before after (task_output task answer.status text)
-    × (answer.reasons.items ≡ task_reasons task answer.status text))
-    → IfOk run (λ answer. IsAnswer work plan unread before after answer.status answer.reasons.items)
-task_answer work task is plan unread before after run h =
-    subst (λ (w : Work). IfOk run (λ answer. IsAnswer w plan unread before after answer.status answer.reasons.items))
-    (sym is) (task_answered task plan unread before after run h)
+pub calls_done : (work : Work) (dialling completing : ℕ) → work ≡ Live dialling completing → (kinds : List Kind)
+    (plan : PlanRead) (unread : Option (List ℕ)) (run : Result Written EngineFault)
+    → IfOk run (λ written. (input : List ℕ) × IfSome unread (λ all. input ≡ all)
+    × IsLive plan dialling completing input written.text.items written.status)
+    → IfOk run (λ written. (input : List ℕ) × IfSome unread (λ all. input ≡ all)
+    × IsWorkDone work kinds plan input written.text.items written.status)
+calls_done work dialling completing is kinds plan unread run h =
+    subst (λ (w : Work). IfOk run (λ written. (input : List ℕ) × IfSome unread (λ all. input ≡ all)
+    × IsWorkDone w kinds plan input written.text.items written.status)) (sym is) h
 
-task_diagnosticped : (task : EngineTask) (before after : Option (List ℕ)) (run : Result Response EngineFault)
-    → IfOk run (λ answer. (text : List ℕ) × Appends before after (task_output task answer.status text)
-    × (answer.reasons.items ≡ task_reasons task answer.status text) × ReportsFaultOf answer.diagnostic text answer.status)
-    → IfOk run (λ answer. IsDiagnosticOf (Task task) before after answer.status answer.reasons.items answer.diagnostic)
-task_diagnosticped task before after (Ok answer) h =
-    record { text = h.0; written = h.1; reasons_are = h.2; tells = h.3 }
-task_diagnosticped task before after (Err fault) h = tt
+-- a task that has its markers is left unread exactly if the work is
+pub task_end : (AtEnd : Type 0) (work : Work) (task : EngineTask) (letters : String Global) → work ≡ Task task letters
+    → (kinds : List Kind) (plan : PlanRead) → IsReady work kinds → (run : Result Written EngineFault)
+    → OnOk run (¬ IsUnreadTask task kinds plan → AtEnd) → OnOk run (¬ IsUnread work plan → AtEnd)
+task_end AtEnd work task letters is kinds plan ready run h =
+    subst (λ (w : Work). OnOk run (¬ IsUnread w plan → AtEnd)) (sym is) (go run h)
+  where
+    has : HasItsMarkers task kinds
+    has = subst (λ (w : Work). IsReady w kinds) is ready
 
-pub task_diagnostic : (work : Work) (task : EngineTask) → work ≡ Task task → (before after : Option (List ℕ))
-    (run : Result Response EngineFault)
-    → IfOk run (λ answer. (text : List ℕ) × Appends before after (task_output task answer.status text)
-    × (answer.reasons.items ≡ task_reasons task answer.status text) × ReportsFaultOf answer.diagnostic text answer.status)
-    → IfOk run (λ answer. IsDiagnosticOf work before after answer.status answer.reasons.items answer.diagnostic)
-task_diagnostic work task is before after run h =
-    subst (λ (w : Work). IfOk run (λ answer. IsDiagnosticOf w before after answer.status answer.reasons.items answer.diagnostic))
-    (sym is) (task_diagnosticped task before after run h)
+    go : (run : Result Written EngineFault) → OnOk run (¬ IsUnreadTask task kinds plan → AtEnd)
+        → OnOk run (¬ IsUnread (Task task letters) plan → AtEnd)
+    go (Ok answer) h = λ read. h (λ unread. elim unread [ inl lacks ↦ lacks has | inr refused ↦ read (inr refused) ])
+    go (Err fault) h = tt
 
-calls_answered : (dialling completing : ℕ) (plan : List ℕ) (unread before after : Option (List ℕ)) (run : Result Response EngineFault)
-    → IfOk run (λ answer. (traffic : List ℕ) × (text : List ℕ) × IfSome unread (λ all. traffic ≡ all)
-    × IsLive plan dialling completing traffic text answer.status × Appends before after text)
-    → IfOk run (λ answer. answer.reasons.items ≡ [])
-    → IfOk run (λ answer. IsAnswer (Calls dialling completing) plan unread before after answer.status answer.reasons.items)
-calls_answered dialling completing plan unread before after (Ok answer) h r =
-    record { input = h.0; text = h.1; all_read = h.2; done = h.3; written = h.4; reasons_are = r }
-calls_answered dialling completing plan unread before after (Err fault) h r = tt
-
-pub calls_answer : (work : Work) (dialling completing : ℕ) → work ≡ Calls dialling completing → (plan : List ℕ)
-    (unread before after : Option (List ℕ)) (run : Result Response EngineFault)
-    → IfOk run (λ answer. (traffic : List ℕ) × (text : List ℕ) × IfSome unread (λ all. traffic ≡ all)
-    × IsLive plan dialling completing traffic text answer.status × Appends before after text)
-    → IfOk run (λ answer. answer.reasons.items ≡ [])
-    → IfOk run (λ answer. IsAnswer work plan unread before after answer.status answer.reasons.items)
-calls_answer work dialling completing is plan unread before after run h r =
-    subst (λ (w : Work). IfOk run (λ answer. IsAnswer w plan unread before after answer.status answer.reasons.items))
-    (sym is) (calls_answered dialling completing plan unread before after run h r)
-
-calls_diagnosticped : (dialling completing : ℕ) (before after : Option (List ℕ)) (run : Result Response EngineFault)
-    → IfOk run (λ answer. (text : List ℕ) × Appends before after text × ReportsFaultOf answer.diagnostic text answer.status)
-    → IfOk run (λ answer. answer.reasons.items ≡ [])
-    → IfOk run (λ answer. IsDiagnosticOf (Calls dialling completing) before after answer.status answer.reasons.items answer.diagnostic)
-calls_diagnosticped dialling completing before after (Ok answer) h r =
-    record { text = h.0; written = h.1; reasons_are = r; tells = h.2 }
-calls_diagnosticped dialling completing before after (Err fault) h r = tt
-
-pub calls_diagnostic : (work : Work) (dialling completing : ℕ) → work ≡ Calls dialling completing
-    → (before after : Option (List ℕ)) (run : Result Response EngineFault)
-    → IfOk run (λ answer. (text : List ℕ) × Appends before after text × ReportsFaultOf answer.diagnostic text answer.status)
-    → IfOk run (λ answer. answer.reasons.items ≡ [])
-    → IfOk run (λ answer. IsDiagnosticOf work before after answer.status answer.reasons.items answer.diagnostic)
-calls_diagnostic work dialling completing is before after run h r =
-    subst (λ (w : Work). IfOk run (λ answer. IsDiagnosticOf w before after answer.status answer.reasons.items answer.diagnostic))
-    (sym is) (calls_diagnosticped dialling completing before after run h r)
+-- live calls are left unread exactly if the work is
+pub calls_end : (AtEnd : Type 0) (work : Work) (dialling completing : ℕ) → work ≡ Live dialling completing → (plan : PlanRead)
+    (run : Result Written EngineFault) → OnOk run (¬ IsLiveUnread plan dialling completing → AtEnd)
+    → OnOk run (¬ IsUnread work plan → AtEnd)
+calls_end AtEnd work dialling completing is plan run h =
+    subst (λ (w : Work). OnOk run (¬ IsUnread w plan → AtEnd)) (sym is) h
 
 either : {A : Type 0} {a b c : A} → (c ≡ a) ⊎ (c ≡ b) → (c ≢ a) → (c ≢ b) → ⊥
 either (inl e) p q = p e
@@ -117,14 +91,14 @@ long_memory : Long ≢ Memory
 long_memory is = cc
 
 no_sentence : (work : Work) → sentence_on_markers work Memory ≡ None
-no_sentence (Task task) = refl
-no_sentence (Calls dialling completing) = refl
+no_sentence (Task task letters) = refl
+no_sentence (Live dialling completing) = refl
 
 -- a run that has its markers ends as the engine answered
-module _ (work : Work) (file : FileName) (files : Files) (streams : Streams) (reasons : Option (List ℕ)) (sentence : Option Sentence) where
-  pub run_end : (run : Result Response EngineFault) (ending : Ending) (plan : List ℕ)
+module _ (work : Work) (kinds : List Kind) (file : FileName) (files : Files) (streams : Streams) (reasons : Option (List ℕ)) (sentence : Option Sentence) where
+  pub run_end : (run : Result Response EngineFault) (ending : Ending) (plan : PlanRead)
       → IsPlanNamed files (name_in file) plan
-      → IfOk run (λ answer. IsAnswer work plan streams.unread streams.before streams.after answer.status answer.reasons.items)
+      → IfOk run (λ answer. IsAnswer work kinds plan streams.unread streams.before streams.after answer.status answer.reasons.items)
       → IfOk run (λ answer. IsDiagnosticOf work streams.before streams.after answer.status answer.reasons.items answer.diagnostic)
       → IfErr run (λ fault. ComesFirst fault → Keeps streams.before streams.after)
       → (IsUnread work plan → streams.IsUntouched)
@@ -133,9 +107,9 @@ module _ (work : Work) (file : FileName) (files : Files) (streams : Streams) (re
       → (run ≡ Err Long → streams.HasTooManyReads)
       → run ≢ Err Markers → ending ≡ ending_of_run run
       → reasons ≡ reasons_of_run run → sentence ≡ sentence_on_run run file streams.failures
-      → IsEndOf work file files streams (record { ending = ending; reasons = reasons; sentence = sentence })
+      → IsEndOf work kinds file files streams (record { ending = ending; reasons = reasons; sentence = sentence })
   run_end (Ok answer) ending plan named a s k u e d l m is r se =
-      subst (λ (x : Ending). IsEndOf work file files streams (record { ending = x; reasons = reasons; sentence = sentence })) (sym is)
+      subst (λ (x : Ending). IsEndOf work kinds file files streams (record { ending = x; reasons = reasons; sentence = sentence })) (sym is)
       (record {
         plan = plan;
         named = named;
@@ -150,35 +124,35 @@ module _ (work : Work) (file : FileName) (files : Files) (streams : Streams) (re
       })
   run_end (Err Markers) ending plan named a s k u e d l m is r se = absurd (m refl)
   run_end (Err Memory) ending plan named a s k u e d l m is r se =
-      subst (λ (x : Ending). IsEndOf work file files streams (record { ending = x; reasons = reasons; sentence = sentence })) (sym is)
+      subst (λ (x : Ending). IsEndOf work kinds file files streams (record { ending = x; reasons = reasons; sentence = sentence })) (sym is)
       (record { reasons_are = r; why = inl (record { cause = tt; unwritten = k; sentence_is = se }) })
   run_end (Err Device) ending plan named a s k u e d l m is r se =
-      subst (λ (x : Ending). IsEndOf work file files streams (record { ending = x; reasons = reasons; sentence = sentence })) (sym is)
+      subst (λ (x : Ending). IsEndOf work kinds file files streams (record { ending = x; reasons = reasons; sentence = sentence })) (sym is)
       (record { reasons_are = r; why = inl (record { cause = d refl; unwritten = k; sentence_is = se }) })
   run_end (Err Long) ending plan named a s k u e d l m is r se =
-      subst (λ (x : Ending). IsEndOf work file files streams (record { ending = x; reasons = reasons; sentence = sentence })) (sym is)
+      subst (λ (x : Ending). IsEndOf work kinds file files streams (record { ending = x; reasons = reasons; sentence = sentence })) (sym is)
       (record { reasons_are = r; why = inl (record { cause = l refl; unwritten = k; sentence_is = se }) })
 
   -- the plan's file was to blame, or memory ran out for the plan
   pub plan_end : (ending : Ending) (fault : EngineFault) (reason : Option Error)
       → IsPlanFault files (name_in file) fault → streams.IsUntouched → streams.IsUnwritten
       → ending ≡ Failed fault → reasons ≡ None → sentence ≡ sentence_on_plan_file fault file reason
-      → IsEndOf work file files streams (record { ending = ending; reasons = reasons; sentence = sentence })
+      → IsEndOf work kinds file files streams (record { ending = ending; reasons = reasons; sentence = sentence })
   plan_end ending fault reason f u w is r se =
-      subst (λ (x : Ending). IsEndOf work file files streams (record { ending = x; reasons = reasons; sentence = sentence })) (sym is)
+      subst (λ (x : Ending). IsEndOf work kinds file files streams (record { ending = x; reasons = reasons; sentence = sentence })) (sym is)
       (record { reasons_are = r; why = inr (record { cause = f; unread = u; unwritten = w; reason = reason; sentence_is = se }) })
 
   -- the markers were refused, or memory ran out for their gates
   pub markers_end : (ending : Ending) (fault : EngineFault)
-      → (fault ≡ Markers) ⊎ (fault ≡ Memory) → (fault ≡ Markers → ¬ HasMarkers work) → streams.IsUntouched
+      → (fault ≡ Markers) ⊎ (fault ≡ Memory) → (fault ≡ Markers → LacksMarkers work) → streams.IsUntouched
       → Keeps streams.before streams.after
       → ending ≡ Failed fault → reasons ≡ None → sentence ≡ sentence_on_markers work fault
-      → IsEndOf work file files streams (record { ending = ending; reasons = reasons; sentence = sentence })
+      → IsEndOf work kinds file files streams (record { ending = ending; reasons = reasons; sentence = sentence })
   markers_end ending Markers why m u w is r se =
-      subst (λ (x : Ending). IsEndOf work file files streams (record { ending = x; reasons = reasons; sentence = sentence })) (sym is)
+      subst (λ (x : Ending). IsEndOf work kinds file files streams (record { ending = x; reasons = reasons; sentence = sentence })) (sym is)
       (record { reasons_are = r; why = inl (record { cause = (m refl, u); unwritten = λ _. w; sentence_is = se }) })
   markers_end ending Memory why m u w is r se =
-      subst (λ (x : Ending). IsEndOf work file files streams (record { ending = x; reasons = reasons; sentence = sentence })) (sym is)
+      subst (λ (x : Ending). IsEndOf work kinds file files streams (record { ending = x; reasons = reasons; sentence = sentence })) (sym is)
       (record { reasons_are = r; why = inl (record { cause = tt; unwritten = λ _. w; sentence_is = se ∙ no_sentence work }) })
   markers_end ending Device why m u w is r se = absurd (either why device_markers device_memory)
   markers_end ending Long why m u w is r se = absurd (either why long_markers long_memory)
@@ -188,9 +162,9 @@ pub done_ask : (ask : Ask) (files : Files) (streams : Streams) (errors : Errors)
     (reasons : Option (List ℕ)) (sentence : Option Sentence)
     → ending ≡ ended
     → IsEndAsAsked ask files streams (record { ending = ended; reasons = reasons; sentence = sentence })
-    → MayEndAsked ask ended
+    → MayEndAsked ask.work ended
     → (ended ≢ Failed Device → streams.HasNoFailure)
-    → (RefusesMarkers ask → streams.IsUntouched)
+    → (RefusesMarkers ask.work → streams.IsUntouched)
     → (IsTrue is_printed → IsPut (IsStderrText ended reasons (option_map text_of sentence)) errors.before errors.after)
     → (is_printed ≡ false → sentence ≡ None → errors.HasFailure)
     → DoesAsk ask files streams errors ending is_printed
@@ -230,10 +204,15 @@ module _ {File Text : Type 0} (items : Text → List ℕ) (Opens : List ℕ → 
   pub text_in : (opened : Result File Error) (result : Result Text EngineFault) → Opens name.now opened
       → IfOk opened (λ file. IfOk result (λ text. IfSome (remaining file) (λ all. items text ≡ all)))
       → IfErr opened (λ error. result ≡ Err (opening_fault (error_kind error)))
-      → IfOk result (λ text. IsPlanNamed (files_of Opens remaining failures reads) (name_in file) (items text))
+      → IfOk result (λ text. IsPlanNamed (files_of Opens remaining failures reads) (name_in file) (plan_of (items text)))
   text_in opened result opens all refused =
-      subst (λ (f : FileName). IfOk result (λ text. IsPlanNamed (files_of Opens remaining failures reads) (name_in f) (items text))) (sym is)
-      (named_text items Opens remaining failures reads name.now opened result opens all refused)
+      subst (λ (f : FileName). IfOk result (λ text. IsPlanNamed (files_of Opens remaining failures reads) (name_in f) (plan_of (items text)))) (sym is)
+      (with_plan result (named_text items Opens remaining failures reads name.now opened result opens all refused))
+    where
+      with_plan : (result : Result Text EngineFault) → IfOk result (λ text. files_of Opens remaining failures reads name.now (Ok (items text)))
+          → IfOk result (λ text. (given : List ℕ) × files_of Opens remaining failures reads name.now (Ok given) × (plan_of (items text) ≡ plan_of given))
+      with_plan (Ok text) given = (items text, given, refl)
+      with_plan (Err fault) given = tt
 
   pub fault_in : (opened : Result File Error) (result : Result Text EngineFault) → Opens name.now opened
       → IfErr opened (λ error. result ≡ Err (opening_fault (error_kind error)))
@@ -243,22 +222,9 @@ module _ {File Text : Type 0} (items : Text → List ℕ) (Opens : List ℕ → 
       subst (λ (f : FileName). IfErr result (IsPlanFault (files_of Opens remaining failures reads) (name_in f))) (sym is)
       (named_fault items Opens remaining failures reads name.now opened result opens refused failed)
 
--- no file is named, so only memory may run out
-pub unnamed_fault : {Text : Type 0} (files : Files) (file : FileName) (result : Result Text EngineFault) (P : Text → Type 0) → file ≡ None
-    → MatchResult result P (λ fault. fault ≡ Memory) → IfErr result (IsPlanFault files (name_in file))
-unnamed_fault files None (Ok text) P is h = tt
-unnamed_fault files None (Err fault) P is h = h
-unnamed_fault files (Some name) result P is h = cc
-
 -- a run of the work that is asked for, with kinds that are asked for
-pub with_kinds : (ask : Ask) (files : Files) (streams : Streams) (end : End) (kinds : Bor (List Kind)) (file : FileName) (work : Work)
-    → NamesKinds (letters_of ask) kinds.now → name_in file ≡ file_of ask → work ≡ work_of ask kinds
-    → IsEndOf work file files streams end → IsEndAsAsked ask files streams end
-with_kinds ask files streams end kinds file work named file_is is ends =
-    inr (record {
-      kinds = kinds;
-      named = named;
-      file = file;
-      file_is = file_is;
-      ends = subst (λ (w : Work). IsEndOf w file files streams end) is ends;
-    })
+pub with_kinds : (ask : Ask) (files : Files) (streams : Streams) (end : End) (kinds : List Kind) (file : FileName)
+    → NamesKinds ask.work kinds → name_in file ≡ option_map string_bytes ask.plan
+    → IsEndOf ask.work kinds file files streams end → IsEndAsAsked ask files streams end
+with_kinds ask files streams end kinds file named file_is ends =
+    inr (record { kinds = kinds; named = named; file = file; file_is = file_is; ends = ends })

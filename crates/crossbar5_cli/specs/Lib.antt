@@ -1,8 +1,10 @@
-pub use Rattle.crossbar5_endings.specs.Endings
-pub use Rattle.crossbar5_endings.specs.Sentences
-pub use Rattle.crossbar5_endings.specs.Named
-pub use Rattle.crossbar5_endings.specs.Asks
-pub use Rattle.crossbar5_endings.specs.Printed
+pub mod Endings
+pub mod Streams
+pub mod Causes
+pub mod Sentences
+pub mod Named
+pub mod Asks
+pub mod Printed
 pub mod Work
 pub mod Runs
 pub mod Program

@@ -1,5 +1,5 @@
 -- What the program does for the words of its command line.
-use Rattle.std.specs.Prelude.{◌≡◌, ◌≢◌, [], ℕ, Bool, List, None, Option, Result, Ok, Err, IfErr, IfOk, IsTrue, MatchResult, false, option_map, true}
+use Rattle.std.specs.Prelude.{◌≡◌, ◌≢◌, [], ℕ, Bool, List, None, Option, Result, IfErr, IfOk, IsTrue, MatchResult, false, option_map, true}
 use Rattle.clap.specs.Words.{Text, subcommand_of, takes}
 use Rattle.crossbar5_command.specs.Ask.{IsAskOf, IsAskWith}
 use Rattle.crossbar5_command.specs.Fault.{IsFaultAmong, conflict_of, faults_of}
@@ -8,15 +8,15 @@ use Rattle.crossbar5_command.specs.Subcommand.{AskFor, GivenOption, Subcommand, 
 use Rattle.crossbar5_command.specs.declared.ask.Ask.{Ask}
 use Rattle.crossbar5_command.specs.declared.command_fault.CommandFault.{CommandFault}
 use Rattle.crossbar5_command.specs.declared.command_fault.CommandFault.TheVariants.{Memory}
-use Rattle.crossbar5_answer.specs.declared.engine_fault.EngineFault.TheVariants.{Device}
-use Rattle.crossbar5_endings.specs.Asks.{MayEndAsked, RefusesMarkers}
-use Rattle.crossbar5_endings.specs.Named.{Files}
-use Rattle.crossbar5_endings.specs.Sentences.{text_of}
-use Rattle.crossbar5_endings.specs.Streams.{MayEndOf}
-use Rattle.crossbar5_endings.specs.Printed.{HasNoOutput, HasNoSentence, IsHelpTextOf, IsPut, IsStderrText, IsStderrTextOf}
-use Rattle.crossbar5_endings.specs.declared.ending.Ending.{Ending}
-use Rattle.crossbar5_endings.specs.declared.ending.Ending.TheVariants.{Failed, Printed}
-use Rattle.crossbar5_endings.specs.declared.sentence.Sentence.{Sentence}
+use Rattle.crossbar5.specs.declared.engine_fault.EngineFault.TheVariants.{Device}
+use Rattle.crossbar5_cli.specs.Asks.{MayEndAsked, RefusesMarkers}
+use Rattle.crossbar5_cli.specs.Named.{Files}
+use Rattle.crossbar5_cli.specs.Sentences.{text_of}
+use Rattle.crossbar5_cli.specs.Streams.{MayEndOf}
+use Rattle.crossbar5_cli.specs.Printed.{HasNoOutput, HasNoSentence, IsHelpTextOf, IsPut, IsStderrText, IsStderrTextOf}
+use Rattle.crossbar5_cli.specs.declared.ending.Ending.{Ending}
+use Rattle.crossbar5_cli.specs.declared.ending.Ending.TheVariants.{Failed, Printed}
+use Rattle.crossbar5_cli.specs.declared.sentence.Sentence.{Sentence}
 use Rattle.crossbar5_cli.specs.Runs.{IsEndAsAsked, Streams}
 
 -- the words are read as this: words that ask for a subcommand with options, as what they ask for;
@@ -44,9 +44,9 @@ pub record DoesAsk (ask : Ask) (files : Files) (streams : Streams) (errors : Err
   pub sentence : Option Sentence
   pub ends : IsEndAsAsked ask files streams
       (record { ending = ending; reasons = reasons; sentence = sentence })
-  pub may : MayEndAsked ask ending
+  pub may : MayEndAsked ask.work ending
   pub no_failure : ending ≢ Failed Device → streams.HasNoFailure
-  pub unread : RefusesMarkers ask → streams.IsUntouched
+  pub unread : RefusesMarkers ask.work → streams.IsUntouched
   pub printed : IsTrue is_printed
       → IsPut (IsStderrText ending reasons (option_map text_of sentence)) errors.before errors.after
   pub unprinted : is_printed ≡ false → sentence ≡ None → errors.HasFailure

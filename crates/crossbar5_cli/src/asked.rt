@@ -3,23 +3,27 @@
 ghost use Rattle.std.specs.Prelude.{◌≡◌, ◌≢◌, ◌-◌, ◌⊎◌, ◌↔◌, Err, IfErr, IfOk, None, option_map};
 ghost use Rattle.std.specs.Io.KnownBytes.{IsAtEnd};
 ghost use Rattle.counted_io.specs.Counts.{HasFailed, ReadsUsedUp};
-ghost use Rattle.crossbar5_endings.specs.Asks.{IsWithoutKinds, MayEndAsked, NamesNone, RefusesMarkers};
-ghost use Rattle.crossbar5_endings.specs.Endings.{IsOfRun};
-ghost use Rattle.crossbar5_endings.specs.Named.{IsPlanFault, IsPlanNamed, NamesKinds, files_of, name_in};
+ghost use Rattle.crossbar5.specs.PlanRefusal.{plan_in};
+ghost use Rattle.crossbar5_cli.specs.Asks.{MayEndAsked, RefusesMarkers};
+ghost use Rattle.crossbar5_cli.specs.Endings.{IsOfRun};
+ghost use Rattle.crossbar5_cli.specs.Named.{IsPlanFault, IsPlanNamed, files_of, name_in, plan_by};
 ghost use Rattle.crossbar5_cli.specs.Runs.{IsEndAsAsked, IsEndOf, sentence_on_markers};
-ghost use Rattle.crossbar5_cli.specs.Work.{HasMarkers, IsReady};
+ghost use Rattle.crossbar5_cli.specs.Work.{IsReady, LacksMarkers};
 
+use crate::named::{file_of, kinds_asked};
+use crate::plan_file::plan_text;
 use crate::system::System;
-use crate::work::{Work, answer, gates_of, work_of};
+use crate::work::{answer, gates_of};
+use crate::{Ended, Ending};
 use counted_io::{Sink, Source};
-use crossbar5_answer::EngineFault;
-use crossbar5_command::Ask;
-use crossbar5_endings::{Ended, Ending, file_of, kinds_for, plan_text};
+use crossbar5::{EngineFault, PlanSource};
+use crossbar5_command::{Ask, Work};
 use std::alloc::Global;
 use std::io;
 use std::io::Read;
 use std::sync::Wait;
 use std::thread::Threads;
+use xbar_moves::Kind;
 
 /// Does what is asked for, with this input and output.
 ///
@@ -55,19 +59,20 @@ pub fn do_as_asked<'w, T: Threads + Wait + Sync, S: System, R: Source, W: Sink>(
           reasons = option_map (λ lines. lines.items) result.reasons;
           sentence = result.sentence;
         }) }
-    ensures may { MayEndAsked ask.now result.ending }
+    ensures may { MayEndAsked ask.now.work result.ending }
     ensures no_failure { result.ending ≢ Ending.Failed EngineFault.Device
         → (R.failure_count input.new ≡ R.failure_count input.old)
         × (W.failure_count output.new ≡ W.failure_count output.old) }
-    ensures unread { RefusesMarkers ask.now → input.new ≡ input.old }
+    ensures unread { RefusesMarkers ask.now.work → input.new ≡ input.old }
 {
-    match kinds_for(alloc, ask) {
+    match kinds_asked(alloc, &ask.work) {
         Ok(kinds) => perform(
             threads,
             alloc,
             system,
             file_of(ask),
-            work_of(ask, &kinds),
+            &ask.work,
+            &kinds,
             input,
             output,
         ),
@@ -75,18 +80,20 @@ pub fn do_as_asked<'w, T: Threads + Wait + Sync, S: System, R: Source, W: Sink>(
     }
 }
 
-/// Does the work with the plan in this file, or with the example plan if no file is named.
+/// Does the work with markers of these kinds and the plan in this file, or the example plan if no
+/// file is named.
 fn perform<'w, T: Threads + Wait + Sync, S: System, R: Source, W: Sink>(
     threads: &T,
     alloc: Global,
     system: &S,
     file: Option<&'w str>,
-    work: Work<'_>,
+    work: &Work,
+    kinds: &[Kind],
     input: &mut R,
     output: &mut W,
 ) -> Ended<'w>
-    requires { IsReady work }
-    ensures ends { IsEndOf work.entry file.entry
+    requires { IsReady work.now kinds.now }
+    ensures ends { IsEndOf work.now kinds.now file.entry
         (files_of (S.Opens system.now) (λ file. S.File.remaining file)
         (λ file. S.File.failure_count file) (λ file. S.File.read_count file))
         (record {
@@ -110,61 +117,75 @@ fn perform<'w, T: Threads + Wait + Sync, S: System, R: Source, W: Sink>(
         }) }
     ensures run { IsOfRun result.ending }
     ensures markers { (result.ending ≡ Ending.Failed EngineFault.Markers)
-        ↔ ¬ HasMarkers work.entry }
+        ↔ LacksMarkers work.now }
     ensures no_failure { result.ending ≢ Ending.Failed EngineFault.Device
         → (R.failure_count input.new ≡ R.failure_count input.old)
         × (W.failure_count output.new ≡ W.failure_count output.old) }
-    ensures unread { ¬ HasMarkers work.entry → input.new ≡ input.old }
+    ensures unread { LacksMarkers work.now → input.new ≡ input.old }
 {
     let gates = match gates_of(alloc, work) {
         Ok(gates) => gates,
         Err(fault) => return without_markers(fault, work),
     };
-    let plan = match plan_named(alloc, system, file) {
-        Ok(plan) => plan,
+    let text = match text_named(alloc, system, file) {
+        Ok(text) => text,
         Err(fault) => return Ended::of_plan_file(fault, file, reason_of(system, file, fault)),
     };
     let before = input.failures();
     system.begin(work);
-    let run = answer(threads, alloc, work, gates, &plan, input, output);
+    let plan = source_of(&text);
+    let run = answer(threads, alloc, work, kinds, gates, plan, input, output);
     system.end();
     Ended::of_run(run, file, input.failures().saturating_sub(before))
 }
 
 /// The end of a run with a fault of the work's markers.
-fn without_markers<'w>(fault: EngineFault, work: Work<'_>) -> Ended<'w>
+fn without_markers<'w>(fault: EngineFault, work: &Work) -> Ended<'w>
     ensures ending { result.ending ≡ Ending.Failed fault }
     ensures reasons { result.reasons ≡ None }
-    ensures sentence { result.sentence ≡ sentence_on_markers work.entry fault }
+    ensures sentence { result.sentence ≡ sentence_on_markers work.now fault }
 {
     match work {
-        Work::Task(_) => Ended::plainly(Ending::Failed(fault)),
-        Work::Calls {
+        Work::Task { .. } => Ended::plainly(Ending::Failed(fault)),
+        Work::Live {
             dialling,
             completing,
-        } => Ended::of_live_markers(fault, dialling, completing),
+        } => Ended::of_live_markers(fault, *dialling, *completing),
     }
 }
 
-/// The text of the plan's file, or of the example plan if no file is named.
-fn plan_named<S: System>(
+/// The text of the plan's file, if one is named.
+fn text_named<S: System>(
     alloc: Global,
     system: &S,
     file: Option<&str>,
-) -> Result<Vec<u8>, EngineFault>
-    ensures named { IfOk result (λ plan. IsPlanNamed
+) -> Result<Option<Vec<u8>>, EngineFault>
+    ensures named { IfOk result (λ text. IsPlanNamed
         (files_of (S.Opens system.now) (λ file. S.File.remaining file)
         (λ file. S.File.failure_count file) (λ file. S.File.read_count file))
-        (name_in file.entry) plan.items) }
+        (name_in file.entry) (plan_by (option_map (λ text. text.items) text))) }
     ensures refused { IfErr result (IsPlanFault
         (files_of (S.Opens system.now) (λ file. S.File.remaining file)
         (λ file. S.File.failure_count file) (λ file. S.File.read_count file))
         (name_in file.entry)) }
     ensures markers { result ≢ Err EngineFault.Markers }
 {
-    match file {
-        None => plan_text::<S::File>(alloc, None),
-        Some(name) => plan_text(alloc, Some(system.open(name))),
+    let Some(name) = file else {
+        return Ok(None);
+    };
+    match plan_text(alloc, system.open(name)) {
+        Ok(text) => Ok(Some(text)),
+        Err(fault) => Err(fault),
+    }
+}
+
+/// The plan of this text, or the example plan.
+fn source_of(text: &Option<Vec<u8>>) -> PlanSource<'_>
+    ensures { plan_in result ≡ plan_by (option_map (λ text. text.items) text.now) }
+{
+    match text {
+        Some(text) => PlanSource::Text(text),
+        None => PlanSource::Example,
     }
 }
 

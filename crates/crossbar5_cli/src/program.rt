@@ -4,14 +4,14 @@ ghost use Rattle.std.specs.Prelude.{◌≡◌, ◌-◌, ◌⊎◌};
 ghost use Rattle.std.specs.Io.KnownBytes.{IsAtEnd};
 ghost use Rattle.clap.specs.Walk.{texts};
 ghost use Rattle.counted_io.specs.Counts.{HasFailed, ReadsUsedUp};
-ghost use Rattle.crossbar5_endings.specs.Named.{files_of};
+ghost use Rattle.crossbar5_cli.specs.Named.{files_of};
 ghost use Rattle.crossbar5_cli.specs.Program.{DoesWords};
 
 use crate::asked::do_as_asked;
 use crate::system::System;
+use crate::{Exit, finish, print_fault};
 use counted_io::{Sink, Source};
 use crossbar5_command::command;
-use crossbar5_endings::{Exit, finish, print_fault};
 use std::alloc::Global;
 use std::sync::Wait;
 use std::thread::Threads;

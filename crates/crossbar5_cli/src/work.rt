@@ -1,118 +1,46 @@
-//! The work that a command line asks for, and doing it.
+//! Doing the work that a command line asks for.
 
-ghost use Rattle.std.specs.Prelude.{◌≡◌, ◌≢◌, ◌+◌, ◌⊎◌, ◌↔◌, Err, IfErr, IfOk, OnOk, vec_len};
+ghost use Rattle.std.specs.Prelude.{◌≡◌, ◌≢◌, ◌⊎◌, ◌↔◌, ℕ, Err, IfErr, IfOk, IfSome, List, OnOk, vec_len};
 ghost use Rattle.std.specs.Io.KnownBytes.{IsAtEnd, Keeps};
 ghost use Rattle.counted_io.specs.Counts.{HasFailed, ReadsUsedUp};
-ghost use Rattle.crossbar5_answer.specs.Faults.{ComesFirst};
-ghost use Rattle.crossbar5_endings.specs.Named.{NamesKinds, letters_of};
-ghost use Rattle.crossbar5_cli.specs.Work as specs;
-ghost use Rattle.crossbar5_cli.specs.Work.{HasGates, HasMarkers, IsAnswer, IsReady, IsDiagnosticOf, IsUnread};
+ghost use Rattle.crossbar5.specs.Faults.{ComesFirst};
+ghost use Rattle.crossbar5.specs.PlanRefusal.{plan_in};
+ghost use Rattle.crossbar5_cli.specs.Work.{HasGates, IsAnswer, IsReady, IsDiagnosticOf, IsUnread, IsWorkDone, LacksMarkers, is_output as is_output_of, output_of, reasons_of};
 
-use counted_io::{Sink, Source};
-use crossbar5::{Detail, Look, Task, View, answer_task};
-use crossbar5_answer::{EngineFault, Response};
-use crossbar5_command::{Ask, LookForm, WalkForm};
-use crossbar5_live::{answer_live, open_gates};
+use crate::response::Response;
+use counted_io::{Sink, Source, write_all};
+use crossbar5::{EngineFault, PlanSource, Status, Written, do_task};
+use crossbar5_command::Work;
+use crossbar5_live::{do_live, open_gates};
+use crossbar5_task::Task;
 use std::alloc::Global;
 use std::sync::Wait;
 use std::thread::Threads;
 use xbar_core::Kind;
 use xbar_markers::OpenGate;
 
-/// The work that a command line asks for.
-#[derive(Clone, Copy)]
-pub enum Work<'k> {
-    /// A task of the engine.
-    Task(Task<'k>),
-    /// Live calls, with `dialling` markers that dial and `completing` markers that complete calls.
-    Calls { dialling: u32, completing: u32 },
-}
-
-/// The work that is asked for, with markers of these kinds if the command takes kinds.
-pub fn work_of<'k>(ask: &Ask, kinds: &'k [Kind]) -> Work<'k>
-    ensures work { result ≡ specs.work_of ask.now kinds.entry }
-    ensures ready { NamesKinds (letters_of ask.now) kinds.now → IsReady result }
-{
-    match ask {
-        Ask::Replay { .. } => Work::Task(Task::Replay { kinds }),
-        Ask::Walk { form, .. } => Work::Task(Task::Walk {
-            kinds,
-            detail: detail_of(*form),
-        }),
-        Ask::Look { form, .. } => Work::Task(Task::Look {
-            kinds,
-            view: view_of(*form),
-        }),
-        Ask::Live {
-            dial,
-            completing,
-            ..
-        } => Work::Calls {
-            dialling: *dial,
-            completing: *completing,
-        },
-        Ask::Audit { .. } => Work::Task(Task::Audit),
-        Ask::Draw { text, .. } => Work::Task(Task::Draw {
-            look: look_of(*text),
-        }),
-        Ask::Page { .. } => Work::Task(Task::Draw { look: Look::Page }),
-    }
-}
-
-/// How a walk of this form is described.
-fn detail_of(form: WalkForm) -> Detail
-    ensures { result ≡ specs.detail_of form }
-{
-    match form {
-        WalkForm::Each => Detail::Each,
-        WalkForm::Short => Detail::Short,
-        WalkForm::Json => Detail::JsonLines,
-    }
-}
-
-/// How an office of this form is shown.
-fn view_of(form: LookForm) -> View
-    ensures { result ≡ specs.view_of form }
-{
-    match form {
-        LookForm::Words => View::Words,
-        LookForm::Json => View::Json,
-        LookForm::Drawing => View::Drawing,
-    }
-}
-
-/// How an office is drawn, by the option `--text`.
-fn look_of(text: bool) -> Look
-    ensures { result ≡ specs.look_of text }
-{
-    if text { Look::Text } else { Look::Drawing }
-}
-
 /// What to type as the input of the work, with an example.
-pub fn input_of(work: Work<'_>) -> &'static str {
+pub fn input_of(work: &Work) -> &'static str {
     match work {
-        Work::Task(Task::Replay { .. } | Task::Walk { .. } | Task::Look { .. }) => {
-            "rows, such as J,0,1,D,3041 and S,0,128,,"
-        }
-        Work::Task(Task::Audit | Task::Draw { .. }) => "records, as a replay prints them",
-        Work::Calls { .. } => "calls, such as C,7,3041,5551234,R",
+        Work::Task { task, .. } if task.is_on_rows() => "rows, such as J,0,1,D,3041 and S,0,128,,",
+        Work::Task { .. } => "records, as a replay prints them",
+        Work::Live { .. } => "calls, such as C,7,3041,5551234,R",
     }
 }
 
 /// The gates of the markers of live calls. A task has none.
-pub fn gates_of(alloc: Global, work: Work<'_>) -> Result<Vec<OpenGate>, EngineFault>
-    requires { IsReady work }
-    ensures gates { IfOk result (λ gates. HasGates work.entry (vec_len gates)) }
-    ensures markers { (result ≡ Err EngineFault.Markers) ↔ ¬ HasMarkers work.entry }
+pub fn gates_of(alloc: Global, work: &Work) -> Result<Vec<OpenGate>, EngineFault>
+    ensures gates { IfOk result (λ gates. HasGates work.now (vec_len gates)) }
+    ensures markers { (result ≡ Err EngineFault.Markers) ↔ LacksMarkers work.now }
     ensures why { IfErr result (λ fault. (fault ≡ EngineFault.Markers)
         ⊎ (fault ≡ EngineFault.Memory)) }
 {
     match work {
-        Work::Task(_) => Ok(Vec::new(alloc)),
-        Work::Calls {
+        Work::Task { .. } => Ok(Vec::new(alloc)),
+        Work::Live {
             dialling,
             completing,
-        } => match open_gates(alloc, dialling as usize, completing as usize) {
+        } => match open_gates(alloc, *dialling as usize, *completing as usize) {
             Ok(gates) => Ok(gates),
             Err(EngineFault::Markers) => Err(EngineFault::Markers),
             // The gates only need memory.
@@ -121,50 +49,121 @@ pub fn gates_of(alloc: Global, work: Work<'_>) -> Result<Vec<OpenGate>, EngineFa
     }
 }
 
-/// Has the engine do the work with a plan's text, this input and this output.
+/// Does the work with markers of these kinds, this plan and this input.
+fn done<T: Threads + Wait + Sync, R: Source>(
+    threads: &T,
+    alloc: Global,
+    work: &Work,
+    kinds: &[Kind],
+    gates: Vec<OpenGate>,
+    plan: PlanSource<'_>,
+    input: &mut R,
+) -> Result<Written, EngineFault>
+    requires ready { IsReady work.now kinds.now }
+    requires gates { HasGates work.now (vec_len gates) }
+    ensures done { IfOk result (λ written. (input_text : List ℕ) ×
+        IfSome (R.remaining input.old) (λ all. input_text ≡ all) ×
+        IsWorkDone work.now kinds.now (plan_in plan.entry) input_text
+        written.text.items written.status) }
+    ensures markers { (result ≡ Err EngineFault.Markers) ↔ LacksMarkers work.now }
+    ensures device { result ≡ Err EngineFault.Device
+        → HasFailed (R.failure_count input.old) (R.failure_count input.new) }
+    ensures no_failure { result ≢ Err EngineFault.Device
+        → R.failure_count input.new ≡ R.failure_count input.old }
+    ensures unread { IsUnread work.now (plan_in plan.entry) → input.new ≡ input.old }
+    ensures end { OnOk result
+        (¬ IsUnread work.now (plan_in plan.entry) → IsAtEnd (R.remaining input.new)) }
+    ensures long { result ≡ Err EngineFault.Long →
+        ReadsUsedUp (R.read_count input.old) (R.read_count input.new) }
+{
+    match work {
+        Work::Task { task, .. } => do_task(alloc, *task, plan, kinds, input),
+        Work::Live {
+            dialling,
+            completing,
+        } => do_live(
+            threads,
+            alloc,
+            plan,
+            *dialling as usize,
+            *completing as usize,
+            gates,
+            input,
+        ),
+    }
+}
+
+/// Whether the text of work with this status is its output. The text of a drawing that isn't made
+/// says why.
+fn is_output(work: &Work, status: Status) -> bool
+    ensures { result ≡ is_output_of work.now status }
+{
+    match work {
+        Work::Task {
+            task: Task::Draw(_),
+            ..
+        } => status == Status::Fine,
+        Work::Task { .. } | Work::Live { .. } => true,
+    }
+}
+
+/// Does the work with markers of these kinds, this plan and this input, and writes its text to the
+/// output. For a drawing only the drawing is written: if the plan or the records are refused, or the
+/// records are wrong, the text is returned as the `reasons` of the response.
 pub fn answer<T: Threads + Wait + Sync, R: Source, W: Sink>(
     threads: &T,
     alloc: Global,
-    work: Work<'_>,
+    work: &Work,
+    kinds: &[Kind],
     gates: Vec<OpenGate>,
-    plan: &[u8],
+    plan: PlanSource<'_>,
     input: &mut R,
     output: &mut W,
 ) -> Result<Response, EngineFault>
-    requires { HasGates work (vec_len gates) }
-    ensures done { IfOk result (λ answer. IsAnswer work.entry plan.now (R.remaining input.old)
-        (W.contents output.old) (W.contents output.new) answer.status answer.reasons.items) }
-    ensures diagnostic { IfOk result (λ answer. IsDiagnosticOf work.entry (W.contents output.old)
+    requires ready { IsReady work.now kinds.now }
+    requires gates { HasGates work.now (vec_len gates) }
+    ensures done { IfOk result (λ answer. IsAnswer work.now kinds.now (plan_in plan.entry)
+        (R.remaining input.old) (W.contents output.old) (W.contents output.new)
+        answer.status answer.reasons.items) }
+    ensures diagnostic { IfOk result (λ answer. IsDiagnosticOf work.now (W.contents output.old)
         (W.contents output.new) answer.status answer.reasons.items answer.diagnostic) }
-    ensures markers { (result ≡ Err EngineFault.Markers) ↔ ¬ HasMarkers work.entry }
+    ensures markers { (result ≡ Err EngineFault.Markers) ↔ LacksMarkers work.now }
     ensures device { result ≡ Err EngineFault.Device
         → HasFailed (R.failure_count input.old) (R.failure_count input.new)
         ⊎ HasFailed (W.failure_count output.old) (W.failure_count output.new) }
     ensures no_failure { result ≢ Err EngineFault.Device
         → (R.failure_count input.new ≡ R.failure_count input.old)
         × (W.failure_count output.new ≡ W.failure_count output.old) }
-    ensures unread { IsUnread work.entry plan.now → input.new ≡ input.old }
+    ensures unread { IsUnread work.now (plan_in plan.entry) → input.new ≡ input.old }
     ensures end { OnOk result
-        (¬ IsUnread work.entry plan.now → IsAtEnd (R.remaining input.new)) }
+        (¬ IsUnread work.now (plan_in plan.entry) → IsAtEnd (R.remaining input.new)) }
     ensures long { result ≡ Err EngineFault.Long →
         ReadsUsedUp (R.read_count input.old) (R.read_count input.new) }
     ensures unwritten { IfErr result (λ fault. ComesFirst fault →
         Keeps (W.contents output.old) (W.contents output.new)) }
 {
-    match work {
-        Work::Task(task) => answer_task(alloc, task, plan, input, output),
-        Work::Calls {
-            dialling,
-            completing,
-        } => answer_live(
-            threads,
-            alloc,
-            plan,
-            dialling as usize,
-            completing as usize,
-            gates,
-            input,
-            output,
-        ),
+    let Written {
+        text,
+        status,
+        diagnostic,
+    } = done(threads, alloc, work, kinds, gates, plan, input)?;
+    let (text, reasons) = split_output(alloc, work, status, text);
+    write_all(output, &text)?;
+    Ok(Response {
+        status,
+        diagnostic,
+        reasons,
+    })
+}
+
+/// Splits the work's text into its output and the reasons why nothing is drawn. One is empty.
+fn split_output(alloc: Global, work: &Work, status: Status, text: Vec<u8>) -> (Vec<u8>, Vec<u8>)
+    ensures output { result.0.items ≡ output_of work.now status text.items }
+    ensures reasons { result.1.items ≡ reasons_of work.now status text.items }
+{
+    if is_output(work, status) {
+        (text, Vec::new(alloc))
+    } else {
+        (Vec::new(alloc), text)
     }
 }

@@ -3,10 +3,10 @@ use Rattle.std.specs.Prelude.{Bool, true, false, Option, None, Some, codes}
 use Rattle.std.specs.Option.{option_map_or}
 use Rattle.std.specs.Str.{bytes_eq}
 use Rattle.clap.specs.Words.{Text}
-use Rattle.crossbar5_command.specs.declared.look_form.LookForm.{LookForm}
-use Rattle.crossbar5_command.specs.declared.look_form.LookForm.TheVariants as look
-use Rattle.crossbar5_command.specs.declared.walk_form.WalkForm.{WalkForm}
-use Rattle.crossbar5_command.specs.declared.walk_form.WalkForm.TheVariants as walk
+use Rattle.crossbar5_task.specs.declared.forms.LookForm.{LookForm}
+use Rattle.crossbar5_task.specs.declared.forms.LookForm.TheVariants as look
+use Rattle.crossbar5_task.specs.declared.forms.WalkForm.{WalkForm}
+use Rattle.crossbar5_task.specs.declared.forms.WalkForm.TheVariants as walk
 
 -- an option that takes no value is given: clap has the value `true` for it
 abbrev pub is_given : Option Text → Bool
@@ -23,5 +23,5 @@ walk_form true true = None
 abbrev pub look_form : Bool → Bool → Bool → Option LookForm
 look_form words false false = Some look.Words
 look_form false true false = Some look.Json
-look_form false false true = Some look.Drawing
+look_form false false true = Some look.Svg
 look_form _ _ _ = None

@@ -1,13 +1,13 @@
 ghost use Rattle.std.specs.Prelude.{◌≡◌, ◌<◌, ◌≤◌, [], ◌∷◌, List, MatchResult, IfErr, IfOk, IfSome, IsErrAnd};
-ghost use Rattle.std.specs.Prelude.{IsSome, length, option_and_then, option_map, true};
+ghost use Rattle.std.specs.Prelude.{IsSome, length, option_and_then, option_map, true, unwrap_or};
 ghost use Rattle.std.specs.String.{string_bytes};
 ghost use Rattle.clap.specs.Walk.{texts};
 ghost use Rattle.clap.specs.Words.{first_value, found_of, subcommand_of};
 ghost use Rattle.clap.specs.Words.{subcommand_rows_of, takes};
-ghost use Rattle.crossbar5_command.specs.Ask.{IsAnswerTo, IsAnswerWith, IsAskOf, IsAskWith, IsNumberOf, IsUnnamedAsk, name_of};
+ghost use Rattle.crossbar5_command.specs.Ask.{IsAnswerTo, IsAnswerWith, IsAskOf, IsAskWith, IsNumberOf, IsTaskWith, IsUnnamedAsk, name_of};
 ghost use Rattle.crossbar5_command.specs.Fault.{IsFaultAmong, conflict_of, faults_of, form_count};
 ghost use Rattle.crossbar5_command.specs.Forms as specs;
-ghost use Rattle.crossbar5_command.specs.Program.{audit, draw, live, look, page, program, replay, subcommands, walk};
+ghost use Rattle.crossbar5_command.specs.Program.{audit, default_kinds, draw, live, look, page, program, replay, subcommands, walk};
 ghost use Rattle.crossbar5_command.specs.Subcommand.{AreValues, AskFor, GivenOption, NamesOnly};
 ghost use Rattle.crossbar5_command.specs.Subcommand.{Subcommand, subcommand_named, value_of};
 ghost use Rattle.crossbar5_command.specs.declared.command_fault.CommandFault.TheVariants.{Memory};
@@ -17,9 +17,10 @@ use crate::options::{
 };
 use crate::program::{NAME, program};
 use crate::subcommands::{AUDIT, DRAW, LIVE, LOOK, PAGE, REPLAY, USAGE_LOOK, USAGE_WALK, WALK};
-use crate::{Ask, CommandFault, LookForm, WalkForm};
+use crate::{Ask, CommandFault, Work};
 use clap::error::ErrorKind;
 use clap::{ArgMatches, Command};
+use crossbar5_task::{DrawForm, LookForm, Task, WalkForm};
 use std::alloc::{AllocError, Global};
 
 /// Returns what the words ask for. The first word is the program's name, whatever it is. The
@@ -98,12 +99,8 @@ fn walk_of(alloc: Global, options: &ArgMatches) -> Result<Ask, CommandFault>
             "only one of '--short' and '--json' can be used",
         ));
     };
-    let kinds = options.get_str(MARKERS).unwrap_or(DEFAULT_KINDS);
-    Ok(Ask::Walk {
-        plan: copy_of(alloc, options.get_str(PLAN))?,
-        kinds: String::from_str(alloc, kinds)?,
-        form,
-    })
+    let (plan, kinds) = (options.get_str(PLAN), options.get_str(MARKERS));
+    Ok(ask_for(alloc, Task::Walk(form), plan, kinds)?)
 }
 
 /// The form of a walk, by its options. None if both are given.
@@ -129,12 +126,8 @@ fn look_of(alloc: Global, options: &ArgMatches) -> Result<Ask, CommandFault>
         let message = "only one of '--words', '--json' and '--svg' can be used";
         return Err(two_forms(alloc, USAGE_LOOK, message));
     };
-    let kinds = options.get_str(MARKERS).unwrap_or(DEFAULT_KINDS);
-    Ok(Ask::Look {
-        plan: copy_of(alloc, options.get_str(PLAN))?,
-        kinds: String::from_str(alloc, kinds)?,
-        form,
-    })
+    let (plan, kinds) = (options.get_str(PLAN), options.get_str(MARKERS));
+    Ok(ask_for(alloc, Task::Look(form), plan, kinds)?)
 }
 
 /// The form of an office as it stands, by its options. None if two are given.
@@ -144,7 +137,7 @@ fn look_form(words: bool, json: bool, svg: bool) -> Option<LookForm>
     match (words, json, svg) {
         (_, false, false) => Some(LookForm::Words),
         (false, true, false) => Some(LookForm::Json),
-        (false, false, true) => Some(LookForm::Drawing),
+        (false, false, true) => Some(LookForm::Svg),
         _ => None,
     }
 }
@@ -164,11 +157,12 @@ fn two_forms(alloc: Global, usage: &str, message: &str) -> CommandFault
 fn live_of(alloc: Global, options: &ArgMatches) -> Result<Ask, CommandFault>
     ensures { IsAnswerWith live (first_value (found_of options.now)) result }
 {
-    Ok(Ask::Live {
-        plan: copy_of(alloc, options.get_str(PLAN))?,
-        dial: number_of(options.get_str(DIAL).unwrap_or(ONE)),
+    let work = Work::Live {
+        dialling: number_of(options.get_str(DIAL).unwrap_or(ONE)),
         completing: number_of(options.get_str(COMPLETING).unwrap_or(ONE)),
-    })
+    };
+    let plan = copy_of(alloc, options.get_str(PLAN))?;
+    Ok(Ask { plan, work })
 }
 
 /// The number of this text, or 1 if it isn't that of a number of 32 bits.
@@ -182,28 +176,27 @@ fn number_of(text: &str) -> u32
 fn audit_of(alloc: Global, options: &ArgMatches) -> Result<Ask, CommandFault>
     ensures { IsAnswerWith audit (first_value (found_of options.now)) result }
 {
-    Ok(Ask::Audit {
-        plan: copy_of(alloc, options.get_str(PLAN))?,
-    })
+    Ok(ask_for(alloc, Task::Audit, options.get_str(PLAN), None)?)
 }
 
 /// The drawing with the values of its options.
 fn draw_of(alloc: Global, options: &ArgMatches) -> Result<Ask, CommandFault>
     ensures { IsAnswerWith draw (first_value (found_of options.now)) result }
 {
-    Ok(Ask::Draw {
-        plan: copy_of(alloc, options.get_str(PLAN))?,
-        text: is_given(options.get_str(TEXT)),
-    })
+    let form = if is_given(options.get_str(TEXT)) {
+        DrawForm::Text
+    } else {
+        DrawForm::Svg
+    };
+    Ok(ask_for(alloc, Task::Draw(form), options.get_str(PLAN), None)?)
 }
 
 /// The page with the values of its options.
 fn page_of(alloc: Global, options: &ArgMatches) -> Result<Ask, CommandFault>
     ensures { IsAnswerWith page (first_value (found_of options.now)) result }
 {
-    Ok(Ask::Page {
-        plan: copy_of(alloc, options.get_str(PLAN))?,
-    })
+    let page = Task::Draw(DrawForm::Page);
+    Ok(ask_for(alloc, page, options.get_str(PLAN), None)?)
 }
 
 /// Whether an option that takes no value is given, by the value that clap has for it.
@@ -216,16 +209,31 @@ fn is_given(value: Option<&str>) -> bool
     }
 }
 
+/// The ask for a task, with the plan's file and the letters of the kinds that are given.
+fn ask_for(
+    alloc: Global,
+    task: Task,
+    plan: Option<&str>,
+    kinds: Option<&str>,
+) -> Result<Ask, AllocError>
+    ensures plan { IfOk result (λ ask. option_map string_bytes ask.plan
+        ≡ option_map (λ s. s.now) plan.entry) }
+    ensures work { IfOk result (λ ask. IsTaskWith task
+        (unwrap_or (option_map (λ s. s.now) kinds.entry) default_kinds) ask.work) }
+{
+    let plan = copy_of(alloc, plan)?;
+    let kinds = String::from_str(alloc, kinds.unwrap_or(DEFAULT_KINDS))?;
+    let work = Work::Task { task, kinds };
+    Ok(Ask { plan, work })
+}
+
 /// The replay with the values of its options, or with defaults if there are no matches.
 fn replay_of(alloc: Global, options: Option<&ArgMatches>) -> Result<Ask, CommandFault>
     ensures { IsAnswerWith replay (λ name.
         option_and_then (λ m. first_value (found_of m.now) name) options.entry) result }
 {
-    let kinds = text_of(options, MARKERS).unwrap_or(DEFAULT_KINDS);
-    Ok(Ask::Replay {
-        plan: copy_of(alloc, text_of(options, PLAN))?,
-        kinds: String::from_str(alloc, kinds)?,
-    })
+    let (plan, kinds) = (text_of(options, PLAN), text_of(options, MARKERS));
+    Ok(ask_for(alloc, Task::Replay, plan, kinds)?)
 }
 
 /// The value of an option in the matches, if there are matches and they have it.

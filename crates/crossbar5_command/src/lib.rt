@@ -1,20 +1,18 @@
 //! The command line of the program `crossbar5`: what its words ask for, or why they are refused.
 #![tactic(auto)]
 
-pub use ask::Ask;
+pub use ask::{Ask, Work};
 pub use command_fault::CommandFault;
 pub use command_line::command;
-pub use look_form::LookForm;
 pub use options::CommandOption;
 pub use program::{ABOUT, AFTER_HELP, NAME, VERSION};
 pub use subcommands::{SUBCOMMANDS, Subcommand};
-pub use walk_form::WalkForm;
+pub use task_words::words_of;
 
 mod ask;
 mod command_fault;
 mod command_line;
-mod look_form;
 mod options;
 mod program;
 mod subcommands;
-mod walk_form;
+mod task_words;

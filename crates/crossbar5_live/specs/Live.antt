@@ -1,7 +1,6 @@
 -- The outcome of live traffic.
 use Rattle.std.specs.Prelude.{◌≡◌, ◌⊎◌, ℕ, ◌+◌, ◌*◌, List, [], ◌∷◌, Option, Some, None, flat_map, length, ⊤}
 use Rattle.csv.specs.Reading.{default_config, records as csv_records, strip_bom}
-use Rattle.xbar_plan_text.specs.Document.{plan_of}
 use Rattle.xbar_plan.specs.Tables.{Tables}
 use Rattle.xbar_office.specs.Legal.{IsLegal, after}
 use Rattle.xbar_office.specs.declared.reply.Record.{Record}
@@ -15,11 +14,11 @@ use Rattle.xbar_markers.specs.Calls.{AreServed}
 use Rattle.xbar_markers.specs.Outcomes.{AreTaken}
 use Rattle.xbar_markers.specs.DesksByKind.{kinds_of}
 use Rattle.xbar_markers.specs.declared.call.Call.{Call}
-use Rattle.crossbar5_answer.specs.Faults.{IsLiveMarkerCount}
-use Rattle.crossbar5_answer.specs.PlanRefusal.{IsAnswerOf, IsRefusedPlan}
-use Rattle.crossbar5_answer.specs.TrafficRefusal.{IsTrafficRefusal}
-use Rattle.crossbar5_answer.specs.declared.status.Status.{Status}
-use Rattle.crossbar5_answer.specs.declared.status.Status.TheVariants.{Fine}
+use Rattle.crossbar5.specs.Faults.{IsLiveMarkerCount}
+use Rattle.crossbar5.specs.PlanRefusal.{IsAnswerOf, IsRefusedPlan, PlanRead}
+use Rattle.crossbar5.specs.TrafficRefusal.{IsTrafficRefusal}
+use Rattle.crossbar5.specs.declared.status.Status.{Status}
+use Rattle.crossbar5.specs.declared.status.Status.TheVariants.{Fine}
 
 -- the calls that a row asks for: one, or none
 abbrev pub calls_in : Row → List Call
@@ -57,13 +56,13 @@ pub record IsLiveUnder (plan : Tables) (dialling completing : ℕ) (traffic text
   pub read : IsTrafficOf Live (csv_records default_config (strip_bom traffic)) rows fault
   pub written : IsLiveOf plan dialling completing rows fault text status
 
--- the text and the status are those of live traffic, with a plan's text and this many markers of
--- each kind
-abbrev pub IsLive : List ℕ → ℕ → ℕ → List ℕ → List ℕ → Status → Type 0
+-- the text and the status are those of live traffic, with a plan as it was read and this many
+-- markers of each kind
+abbrev pub IsLive : PlanRead → ℕ → ℕ → List ℕ → List ℕ → Status → Type 0
 IsLive plan dialling completing traffic text status =
-    IsAnswerOf (λ tables. IsLiveUnder tables dialling completing) (plan_of plan) traffic text status
+    IsAnswerOf (λ tables. IsLiveUnder tables dialling completing) plan traffic text status
 
 -- live traffic is refused before any of it is read: there are too few or too many markers, or its
 -- plan is refused
-abbrev pub IsLiveUnread : List ℕ → ℕ → ℕ → Type 0
+abbrev pub IsLiveUnread : PlanRead → ℕ → ℕ → Type 0
 IsLiveUnread plan dialling completing = ¬ IsLiveMarkerCount dialling completing ⊎ IsRefusedPlan plan

@@ -1,6 +1,6 @@
 //! Live traffic: its calls are done on threads, and their outcome is written as text.
 
-ghost use Rattle.std.specs.Prelude.{◌≡◌, ◌+◌, ◌≤◌, ◌<◌, All, IfErr, IfOk, IfSome, List, ℕ, option_to_list, vec_len};
+ghost use Rattle.std.specs.Prelude.{◌≡◌, ◌+◌, ◌<◌, All, IfOk, IfSome, List, ℕ, option_to_list, vec_len};
 ghost use Rattle.xbar_equip.specs.Word.{word_count};
 ghost use Rattle.xbar_plan.specs.Tables.{Tables};
 ghost use Rattle.xbar_traffic.specs.Row.{IsRow};
@@ -8,10 +8,10 @@ ghost use Rattle.xbar_markers.specs.Calls.{HasCallNo};
 ghost use Rattle.xbar_markers.specs.Gates.{AreForMarkers};
 ghost use Rattle.xbar_markers.specs.Outcomes.{IsOutcome};
 ghost use Rattle.xbar_markers.specs.declared.call.Call.{Call as CallView};
-ghost use Rattle.crossbar5_answer.specs.Faults.{IsLiveMarkerCount};
+ghost use Rattle.crossbar5.specs.Faults.{IsLiveMarkerCount};
 ghost use Rattle.crossbar5_live.specs.Live.{IsLiveUnder, IsTextOfCalls, calls_in, calls_of};
 
-use crossbar5_answer::{Status, Written, refused};
+use crossbar5::{Status, Written, refused};
 use std::alloc::{AllocError, Global};
 use std::sync::Wait;
 use std::thread::Threads;

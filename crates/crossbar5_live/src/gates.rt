@@ -1,7 +1,7 @@
 ghost use Rattle.std.specs.Prelude.{◌≡◌, ◌+◌, ◌↔◌, Err, IfOk, vec_len};
-ghost use Rattle.crossbar5_answer.specs.Faults.{IsLiveMarkerCount};
+ghost use Rattle.crossbar5.specs.Faults.{IsLiveMarkerCount};
 
-use crossbar5_answer::EngineFault;
+use crossbar5::EngineFault;
 use std::alloc::Global;
 use xbar_markers::OpenGate;
 use xbar_moves::MOST_MARKERS;

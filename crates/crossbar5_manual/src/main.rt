@@ -1,12 +1,15 @@
 //! Prints the manual of `crossbar5` in all its forms, made from the table of its subcommands and
 //! options: the texts of `--help`, a man page, and completions for bash, zsh and fish. Each text
-//! follows a line `==> FILE <==` with the name of its file.
+//! follows a line `==> FILE <==` with the name of its file. So does the table of the library's
+//! tasks: a line for each, with its number, the kind of its input, the words that ask the program
+//! for it, and its name, separated by tabs.
 #![tactic(auto)]
 
 mod bash;
 mod fish;
 mod lines;
 mod man_page;
+mod task_table;
 mod zsh;
 
 use bash::BashCompletions;
@@ -15,6 +18,7 @@ use fish::FishCompletions;
 use man_page::ManPage;
 use std::fmt;
 use std::process::ExitCode;
+use task_table::TaskTable;
 use zsh::ZshCompletions;
 
 /// Why the manual couldn't be printed.
@@ -43,7 +47,8 @@ fn print_all(rt: &HostRuntime) -> Result<(), ManualFault> {
     print_text(rt, "man/man1/crossbar5.1", &ManPage)?;
     print_text(rt, "completions/crossbar5.bash", &BashCompletions)?;
     print_text(rt, "completions/_crossbar5", &ZshCompletions)?;
-    print_text(rt, "completions/crossbar5.fish", &FishCompletions)
+    print_text(rt, "completions/crossbar5.fish", &FishCompletions)?;
+    print_text(rt, "crossbar5/tasks.txt", &TaskTable)
 }
 
 /// The help that these words ask for.

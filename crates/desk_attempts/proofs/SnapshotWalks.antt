@@ -8,7 +8,7 @@ use Rattle.turns.specs.System.{System}
 use Rattle.turns.specs.declared.answer.Answer.{Answer}
 use Rattle.turns.specs.declared.answer.Answer.TheVariants.{Seized}
 use Rattle.turns.specs.declared.phase.Phase.{Phase}
-use Rattle.turns.specs.declared.phase.Phase.TheVariants.{Seizes, Tests, Turns}
+use Rattle.turns.specs.declared.phase.Phase.TheVariants.{Tests, Turns}
 use Rattle.turns.specs.declared.reading.Reading.{Reading}
 use Rattle.turns.specs.declared.wanted.Wanted.{Wanted}
 use Rattle.turns.specs.declared.wanted.Wanted.TheVariants.{Seize, Test}
@@ -20,6 +20,7 @@ use Rattle.attempts.specs.Applied.{WalksOn, continued}
 use Rattle.desk_attempts.proofs.SpeculationNow.{waits}
 use Rattle.desk_attempts.proofs.Confirmed.{knows_there}
 use Rattle.desk_attempts.proofs.PredictedWalks.{Looked, looked}
+use Rattle.attempts.proofs.Applied.{acquires}
 use Rattle.attempts.proofs.Places.{place_change}
 
 module _ {Lock Job Reply Effect Decision ResumePoint : Type 0} (same : Lock → Lock → Bool) (reply_of : Decision → Reply) (effects_of : Decision → List Effect) (S : SystemWith Lock Job Reply Effect Decision) (ResumePointIsValid : Job → ResumePoint → Seen Lock → Type 0) where
@@ -209,17 +210,17 @@ module _ {Lock Job Reply Effect Decision ResumePoint : Type 0} (same : Lock → 
     stands_plain p none valid = subst (λ (s : Option ℕ). StandsHere (record { predicted = p.predicted; validated = s })) (sym none) (plain p.predicted valid)
 
     -- it has seized a lock
-    pub seizes : (old new : Speculation Lock Job Decision ResumePoint) (mid : Doing) (lock : Lock) (expected count : ℕ) → StandsHere old → old.validated ≡ None → old.predicted.phase ≡ Seizes lock expected
+    pub seizes : (old new : Speculation Lock Job Decision ResumePoint) (mid : Doing) (lock : Lock) (count : ℕ) → StandsHere old → old.validated ≡ None → Some lock ≡ generic.asked_in old.predicted.phase
         → mid ≡ record (record old.predicted { held = old.predicted.held ++ lock ∷ [] }) { count = count } → Looks mid new
         → (now_of reply_of effects_of new ≡ generic.change O (now_of reply_of effects_of old) Seized) × StandsHere new
-    seizes old new mid lock expected count valid none is holds looks = (change, record { place = subst (IsValidInBounds O R H) (sym change) (place_change O are.is_system R H are.asks (now_of reply_of effects_of old) Seized tt valid.place); valid_point = looks.valid_point }) where
+    seizes old new mid lock count valid none names holds looks = (change, record { place = subst (IsValidInBounds O R H) (sym change) (place_change O are.is_system R H are.asks (now_of reply_of effects_of old) Seized tt valid.place); valid_point = looks.valid_point }) where
       old_is : now_of reply_of effects_of old ≡ outside old.predicted
       old_is = ap (λ (s : Option ℕ). now_by reply_of effects_of old.predicted s (predicted_of s old.predicted.readings)) none
 
       change : now_of reply_of effects_of new ≡ generic.change O (now_of reply_of effects_of old) Seized
       change = looks.change
           ∙ ap (λ (x : Doing). walks_on O (outside x)) holds
-          ∙ ap (λ (phase : Phase Lock ℕ). generic.changed O (outside old.predicted) phase Seized) (sym is)
+          ∙ acquires O (outside old.predicted) old.predicted.phase lock names
           ∙ ap (λ (a : generic.AttemptOf O). generic.change O a Seized) (sym old_is)
 
     -- an answer to a step without predictions

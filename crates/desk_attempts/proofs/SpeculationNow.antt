@@ -3,6 +3,7 @@ use Rattle.std.proofs.Common.{◌≡◌, ℕ, Bool, zero, suc, List, [], ◌∷�
 use Rattle.std.specs.Prelude.{IfNone, IfSome, Option, Some, None, drop, slice_get}
 use Rattle.std.proofs.lemmas.Option.{same_Some}
 use Rattle.turns.specs.Attempt.{Attempt, act, answer_to}
+use Rattle.turns.specs.Sharings.{sharing_of}
 use Rattle.turns.specs.declared.reading.Reading.{Reading}
 use Rattle.desk_attempts.specs.Speculation.{Speculation, predicted_of, predictions, validated_of, now_by, now_of, waiting}
 use Rattle.attempts.specs.Validity.{AttemptView, attempt_of}
@@ -56,7 +57,7 @@ module _ {Lock Job Reply Effect Decision ResumePoint A : Type 0} (reply_of : Dec
   seen_waiting now prediction got = ap f (sym (waits reply_of effects_of now prediction got))
 
 -- without predictions, the answer to its next step depends on the phase of the predicted attempt
-pub told_far : {Lock Job Reply Effect Decision ResumePoint : Type 0} (same : Lock → Lock → Bool) (reply_of : Decision → Reply) (effects_of : Decision → List Effect) (S : SystemWith Lock Job Reply Effect Decision) (k found : ℕ) (p predicted : AttemptView Lock Job Decision ResumePoint) (validated : Option ℕ) (now : Speculation Lock Job Decision ResumePoint) → p ≡ predicted → record { predicted = predicted; validated = validated } ≡ now → None ≡ slice_get (predictions now) 0 → answer_in p.phase k found ≡ answer_to (system_with same reply_of effects_of S) k (act (now_of reply_of effects_of now)) found
+pub told_far : {Lock Job Reply Effect Decision ResumePoint : Type 0} (same : Lock → Lock → Bool) (reply_of : Decision → Reply) (effects_of : Decision → List Effect) (S : SystemWith Lock Job Reply Effect Decision) (k found : ℕ) (p predicted : AttemptView Lock Job Decision ResumePoint) (validated : Option ℕ) (now : Speculation Lock Job Decision ResumePoint) → p ≡ predicted → record { predicted = predicted; validated = validated } ≡ now → None ≡ slice_get (predictions now) 0 → answer_in (sharing_of S.sharing) p.phase k found ≡ answer_to (system_with same reply_of effects_of S) k (act (now_of reply_of effects_of now)) found
 told_far same reply_of effects_of S k found p predicted validated now within inside none =
     told_by same reply_of effects_of S k found p.phase (attempt_of reply_of effects_of p)
     ∙ ap (λ (x : AttemptView _ _ _ _). answer_to (system_with same reply_of effects_of S) k (act (attempt_of reply_of effects_of x)) found) within

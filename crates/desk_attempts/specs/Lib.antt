@@ -1,3 +1,4 @@
 pub mod Speculation
 pub mod Of
 pub mod Groups
+pub mod GroupPlaces

@@ -1,5 +1,6 @@
 ghost use Rattle.std.specs.Prelude.{◌≡◌, ◌≤◌, ◌<◌, IfNone, IfSome};
 ghost use Rattle.turns.specs.Attempt.{act};
+ghost use Rattle.turns.specs.Sharings.{sharing_of};
 ghost use Rattle.turns.specs.declared.act.Act.TheVariants.{Finished};
 ghost use Rattle.desks.specs.WordSteps.{Makes};
 ghost use Rattle.desk_attempts.specs.Of.{MayApply, IsValidSpeculation, now_of};
@@ -11,12 +12,11 @@ use crate::now::{
 };
 use crate::on_words::OnWords;
 use crate::speculation::SpeculationOf;
-use crate::word_step::{operation, place};
+use crate::word_step::{lock_to_acquire, operation, place};
 use desks::{Jobs, WordStep};
 use std::alloc::{AllocError, Global};
 use std::marker::PhantomData;
 use std::ops::Range;
-use turns::lock_word::holder;
 use turns::{Act, Answer, Phase, Reading};
 
 /// Does nothing. Called for its contract, that an answer may be applied.
@@ -29,8 +29,8 @@ fn may_apply<S: OnWords<READINGS, HELD>, const READINGS: usize, const HELD: usiz
     ensures { MayApply S.Lock.eq S.Scripts setting.now _program.now }
 {}
 
-/// The words under the lock that the pending step seizes, or an empty range if the number `found`
-/// tells that it didn't.
+/// The words under the lock that the pending step seizes, or an empty range if it seizes none or
+/// the number `found` tells that it didn't.
 fn words_under_seized<S: OnWords<READINGS, HELD>, const READINGS: usize, const HELD: usize>(
     setting: &S::Setting,
     program: &SpeculationOf<S, READINGS, HELD>,
@@ -38,13 +38,15 @@ fn words_under_seized<S: OnWords<READINGS, HELD>, const READINGS: usize, const H
 ) -> Range<usize>
     ensures { result.end ≤ (S.system setting.now).size }
 {
+    let sharing = S::sharing(setting);
     let phase = program.predicted.phase();
-    if let Phase::Seizes(lock, expected) = phase {
-        if found == expected {
-            return S::words_under(setting, lock);
+    match phase {
+        Phase::Requests(lock) if !sharing.asks() && sharing.holder(found).is_none() => {
+            S::words_under(setting, lock)
         }
+        Phase::Seizes(lock, expected) if found == expected => S::words_under(setting, lock),
+        _ => 0..0,
     }
-    0..0
 }
 
 /// The attempt's next step as an operation on a word. None if there is no next step.
@@ -55,7 +57,7 @@ fn on_word<S: OnWords<READINGS, HELD>, const READINGS: usize, const HELD: usize>
     _program: &SpeculationOf<S, READINGS, HELD>,
     step: Act<S::Lock, S::Effect>,
 ) -> Option<WordStep>
-    requires actor { actor < 48 }
+    requires actor { actor < (sharing_of (S.system setting.now).sharing).most }
     requires valid { S.IsSetting setting.now
         × IsValidSpeculation S.Lock.eq S.Scripts setting.now _program.now }
     requires next { step ≡ act (now_of S.Scripts _program.now) }
@@ -107,6 +109,8 @@ impl<S: OnWords<READINGS, HELD>, const READINGS: usize, const HELD: usize> Jobs
 
     ghost IsSetting = { S.IsSetting };
 
+    ghost places = { S.places };
+
     ghost attempt = { λ program. now_of S.Scripts program };
 
     ghost IsValid = { λ setting program. S.IsSetting setting
@@ -128,6 +132,14 @@ impl<S: OnWords<READINGS, HELD>, const READINGS: usize, const HELD: usize> Jobs
         S::size(setting)
     }
 
+    fn place(setting: &S::Setting, word: usize) -> usize {
+        S::place(setting, word)
+    }
+
+    fn place_count(setting: &S::Setting) -> usize {
+        S::place_count(setting)
+    }
+
     fn initial(alloc: Global, setting: &S::Setting) -> Result<Vec<u64>, AllocError> {
         S::initial(alloc, setting)
     }
@@ -140,8 +152,8 @@ impl<S: OnWords<READINGS, HELD>, const READINGS: usize, const HELD: usize> Jobs
         S::lock_word(setting, *lock)
     }
 
-    fn holder_in(_setting: &S::Setting, word: u64) -> Option<u32> {
-        holder(word)
+    fn holder_in(setting: &S::Setting, word: u64) -> Option<u32> {
+        S::sharing(setting).holder(word)
     }
 
     fn is_finished(program: &SpeculationOf<S, READINGS, HELD>) -> bool {
@@ -174,6 +186,13 @@ impl<S: OnWords<READINGS, HELD>, const READINGS: usize, const HELD: usize> Jobs
     ) -> Option<WordStep> {
         let step = next_without_lock_now::<S, READINGS, HELD>(program)?;
         on_word::<S, READINGS, HELD>(setting, actor, program, step)
+    }
+
+    fn lock_to_acquire(
+        setting: &S::Setting,
+        program: &SpeculationOf<S, READINGS, HELD>,
+    ) -> Option<usize> {
+        lock_to_acquire::<S, READINGS, HELD>(setting, program)
     }
 
     #[inline(always)]
@@ -235,4 +254,6 @@ impl<S: OnWords<READINGS, HELD>, const READINGS: usize, const HELD: usize> Jobs
     }
 
     ghost is_system = { λ setting right. (S.are_scripts setting right).is_system };
+
+    ghost are_places = { S.are_places };
 }

@@ -4,6 +4,7 @@
 ghost use Rattle.std.specs.Prelude.{◌≡◌, ◌<◌, IfNone, IfSome, None};
 ghost use Rattle.turns.specs.Attempt.{act, answer_to, asked_in, begin as begin_of, next as next_of, operated, restarted, turn_in};
 ghost use Rattle.turns.specs.Runs.{is_finished};
+ghost use Rattle.turns.specs.Sharings.{sharing_of};
 ghost use Rattle.turns.specs.Outcomes.{IsPastTurn, is_giving_back, outcome_of};
 ghost use Rattle.desk_attempts.specs.Of.{MayApply, IsValidSpeculation, now_of};
 ghost use Rattle.attempts.specs.Of.{AreScripts, IsValid, attempt_of, system_of};
@@ -231,7 +232,7 @@ pub(crate) fn apply_found<S: Scripts<READINGS, HELD>, const READINGS: usize, con
     found: u64,
     snapshot: &mut [u64],
 ) -> Answer
-    requires actor { actor < 48 }
+    requires actor { actor < (sharing_of (S.system setting.now).sharing).most }
     requires may { MayApply S.Lock.eq S.Scripts setting.now program.old }
     ensures next { let O = system_of S.Lock.eq S.Scripts setting.now in
         now_of S.Scripts program.new
@@ -246,7 +247,8 @@ pub(crate) fn apply_found<S: Scripts<READINGS, HELD>, const READINGS: usize, con
             Answer::Value(found)
         }
         None => {
-            let answer = answer_in_phase(actor, program.predicted.phase(), found);
+            let phase = program.predicted.phase();
+            let answer = answer_in_phase(S::sharing(setting), actor, phase, found);
             apply_without_prediction::<S, READINGS, HELD>(program, setting, answer, snapshot);
             answer
         }

@@ -1,16 +1,22 @@
-ghost use Rattle.std.specs.Prelude.{◌≡◌, ◌≤◌, ◌*◌};
+ghost use Rattle.std.specs.Prelude.{◌≡◌, ◌≤◌, ◌<◌, ◌*◌, ◌^◌};
 ghost use Rattle.turns.specs.Layouts.{size_of};
-ghost use Rattle.desk_attempts.specs.Groups.{layout_of};
+ghost use Rattle.desk_attempts.specs.Groups.{layout_of, places_of, stride_of};
 
 use crate::on_words::OnWords;
 use attempts::{Scripts, Seen};
 use std::alloc::{AllocError, Global};
 use std::marker::PhantomData;
 use std::ops::Range;
-use turns::{Operation, Wanted};
+use turns::{Clock, LockSharing, Operation, Wanted};
+
+/// How many words stand on the cache lines that a processor may fetch together: two lines of 64
+/// bytes.
+const LINES: u32 = 16;
 
 /// Words in groups of one size, each under a lock, which has its group's number. The words of all
-/// groups come first, then each lock's own word, then the turn word. All are 0 at first.
+/// groups come first, then each lock's own word, then the turn word. All are 0 at first. In a
+/// room's table each group stands with its lock on cache lines of its own, and so does the turn
+/// word.
 #[derive(Clone, Copy, Debug, PartialEq, Eq)]
 pub struct Groups {
     /// How many groups there are.
@@ -34,6 +40,40 @@ impl Groups {
         self.words() + self.count as usize + 1
     }
 
+    /// How far one group begins after another in a room's table.
+    fn stride(self) -> usize
+        ensures stride { result ≡ stride_of self }
+        ensures far { result ≤ 2 ^ 32 }
+    {
+        match self.each.checked_add(2 * LINES - 1) {
+            Some(reach) => (reach / LINES * LINES) as usize,
+            None => self.each as usize + 1,
+        }
+    }
+
+    /// The place of a word in a room's table.
+    pub fn place(self, word: usize) -> usize
+        requires { word < size_of (layout_of self) }
+        ensures { result ≡ (places_of self).place word }
+    {
+        let words = self.words();
+        if word < words {
+            let each = self.each as usize;
+            word / each * self.stride() + word % each
+        } else if word < words + self.count as usize {
+            (word - words) * self.stride() + self.each as usize
+        } else {
+            self.count as usize * self.stride()
+        }
+    }
+
+    /// The number of places in a room's table.
+    pub fn place_count(self) -> usize
+        ensures { result ≡ (places_of self).count }
+    {
+        self.count as usize * self.stride() + LINES as usize
+    }
+
     /// The words of a group. Empty if there is no such group.
     fn group(self, number: u32) -> Range<usize>
         ensures { result.end ≤ size_of (layout_of self) }
@@ -52,6 +92,7 @@ pub trait OnGroups<const READINGS: usize, const HELD: usize>: Scripts<READINGS, 
     ghost use Rattle.std.specs.Prelude.{nat_eq};
     ghost use Rattle.attempts.specs.Validity.{AreScripts};
     ghost use Rattle.desk_attempts.specs.Groups.{IsLaidOut};
+    ghost use Rattle.desk_attempts.specs.declared.on_groups.Groups.{Groups as GroupsView};
 
     /// What a desk stores of its setting.
     type Kept: Drop;
@@ -61,9 +102,17 @@ pub trait OnGroups<const READINGS: usize, const HELD: usize>: Scripts<READINGS, 
     fn keep(setting: &Self::Setting) -> Self::Kept
         ensures { kept result ≡ setting.now };
 
+    // The groups in which the words are.
+    ghost groups_of: { Self.Setting → GroupsView };
+
     /// The groups in which the words are.
     fn groups(setting: &Self::Setting) -> Groups
-        ensures { IsLaidOut (Self.system setting.now) result };
+        ensures groups { result ≡ groups_of setting.now }
+        ensures laid_out { IsLaidOut (Self.system setting.now) result };
+
+    /// What tells turns apart.
+    fn clock(setting: &Self::Setting) -> Clock
+        ensures { result ≡ (Self.system setting.now).clock };
 
     /// The number of the word that an effect is made on.
     fn effect_word(setting: &Self::Setting, effect: Self::Effect) -> usize
@@ -76,6 +125,10 @@ pub trait OnGroups<const READINGS: usize, const HELD: usize>: Scripts<READINGS, 
     ghost are_scripts: { (setting : Self.Setting) → Self.IsSetting setting
         → AreScripts nat_eq Self.reply_of Self.effects_of (Self.system setting)
         (Self.ResumePointIsValid setting) READINGS HELD };
+
+    // The proof that the words are in these groups.
+    ghost are_laid_out: { (setting : Self.Setting)
+        → IsLaidOut (Self.system setting) (groups_of setting) };
 }
 
 /// The scripts of `S`, on words in groups.
@@ -108,6 +161,10 @@ impl<S: OnGroups<READINGS, HELD>, const READINGS: usize, const HELD: usize> Scri
     ghost IsSetting = { S.IsSetting };
 
     ghost ResumePointIsValid = { S.ResumePointIsValid };
+
+    fn sharing(setting: &S::Setting) -> LockSharing {
+        S::sharing(setting)
+    }
 
     fn first(job: &S::Job) -> u32 {
         S::first(job)
@@ -148,9 +205,14 @@ impl<S: OnGroups<READINGS, HELD>, const READINGS: usize, const HELD: usize> Scri
 
 impl<S: OnGroups<READINGS, HELD>, const READINGS: usize, const HELD: usize> OnWords<READINGS, HELD>
     for InGroups<S> {
+    ghost use Rattle.desk_attempts.specs.Groups.{places_of};
+    ghost use Rattle.desk_attempts.specs.GroupPlaces.{places_of_size};
+
     type Kept = S::Kept;
 
     ghost kept = { S.kept };
+
+    ghost places = { λ setting. places_of (S.groups_of setting) };
 
     fn keep(setting: &S::Setting) -> S::Kept {
         S::keep(setting)
@@ -168,12 +230,24 @@ impl<S: OnGroups<READINGS, HELD>, const READINGS: usize, const HELD: usize> OnWo
         S::groups(setting).size()
     }
 
+    fn place(setting: &S::Setting, word: usize) -> usize {
+        S::groups(setting).place(word)
+    }
+
+    fn place_count(setting: &S::Setting) -> usize {
+        S::groups(setting).place_count()
+    }
+
     fn initial(alloc: Global, setting: &S::Setting) -> Result<Vec<u64>, AllocError> {
         vec![in alloc; 0; S::groups(setting).size()]
     }
 
     fn turn_word(setting: &S::Setting) -> usize {
         S::groups(setting).size() - 1
+    }
+
+    fn clock(setting: &S::Setting) -> Clock {
+        S::clock(setting)
     }
 
     fn lock_word(setting: &S::Setting, lock: u32) -> usize {
@@ -185,4 +259,7 @@ impl<S: OnGroups<READINGS, HELD>, const READINGS: usize, const HELD: usize> OnWo
     }
 
     ghost are_scripts = { S.are_scripts };
+
+    ghost are_places = { λ setting _.
+        places_of_size (S.groups_of setting) (S.are_laid_out setting).size };
 }

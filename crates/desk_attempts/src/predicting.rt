@@ -2,14 +2,13 @@
 //! snapshot, and what it reads there is predicted.
 
 ghost use Rattle.std.specs.Prelude.{◌≡◌, ◌<◌, ◌++◌, ◌∷◌, [], ℕ, IfNone, IfSome, None, false, is_some, length, take};
-ghost use Rattle.turns.specs.Attempt.{change};
+ghost use Rattle.turns.specs.Attempt.{asked_in, change};
 ghost use Rattle.desk_attempts.specs.Speculation.{MayRollBack};
 ghost use Rattle.desk_attempts.specs.Of.{HasWalkedSnapshot, HasPredicted, MayPredict, MayApply, IsValidSpeculation, now_of};
 ghost use Rattle.attempts.specs.Of.{AreScripts, CanWalk, IsValid, attempt_of, system_of};
-ghost use Rattle.attempts.specs.Applied.{SeizesLock};
 
 use crate::speculation::SpeculationOf;
-use attempts::{AttemptOf, Scripts, apply, to_seize, walk_by_steps, walk_on};
+use attempts::{AttemptOf, Scripts, apply, to_acquire, walk_by_steps, walk_on};
 use turns::{Answer, Wanted};
 
 /// Walks on by the snapshot `words`. Afterwards `roll_back` may return to the first `_readings`
@@ -94,22 +93,21 @@ fn predict<S: Scripts<READINGS, HELD>, const READINGS: usize, const HELD: usize>
     program.validated = validated;
 }
 
-/// The lock that the attempt's next step seizes, and for which it has room. None in other phases.
-fn lock_to_seize<S: Scripts<READINGS, HELD>, const READINGS: usize, const HELD: usize>(
+/// The lock that the attempt's next step requests or seizes, and for which it has room. None in
+/// other phases.
+fn lock_to_acquire<S: Scripts<READINGS, HELD>, const READINGS: usize, const HELD: usize>(
     program: &SpeculationOf<S, READINGS, HELD>,
     setting: &S::Setting,
 ) -> Option<S::Lock>
     requires scripts { AreScripts S.Lock.eq S.Scripts setting.now }
     requires valid { IsValid S.Lock.eq S.Scripts setting.now program.now.predicted }
-    ensures seizes { IfSome result (SeizesLock program.now.predicted.phase) }
+    ensures lock { result ≡ asked_in program.now.predicted.phase }
     ensures room { IfSome result (λ lock. length program.now.predicted.held < HELD) }
     ensures walk { IfSome result (λ lock.
         CanWalk S.Lock.eq S.Scripts setting.now
         (record program.now.predicted { held = program.now.predicted.held ++ lock ∷ [] })) }
-    ensures none { IfNone result
-        ((lock : S.Lock) → SeizesLock program.now.predicted.phase lock → ⊥) }
 {
-    to_seize::<S, READINGS, HELD>(&program.predicted, setting)
+    to_acquire::<S, READINGS, HELD>(&program.predicted, setting)
 }
 
 /// Applies the answer to the pending step, for an attempt without predictions.
@@ -185,7 +183,7 @@ pub(crate) fn apply_seized<S: Scripts<READINGS, HELD>, const READINGS: usize, co
     // An attempt that seizes a lock has no decision. If it had one, it wouldn't need to predict.
     if program.has_decided() {
         apply_plain::<S, READINGS, HELD>(program, setting, Answer::Seized);
-    } else if let Some(lock) = lock_to_seize::<S, READINGS, HELD>(program, setting) {
+    } else if let Some(lock) = lock_to_acquire::<S, READINGS, HELD>(program, setting) {
         hold_seized::<S, READINGS, HELD>(program, setting, lock);
         predict::<S, READINGS, HELD>(program, setting, words);
     }

@@ -1,14 +1,18 @@
 //! An attempt's next step on the shared words: its word, the operation that makes it there, and
 //! the answer to the number found.
 
-ghost use Rattle.std.specs.Prelude.{◌≡◌, ◌<◌};
+ghost use Rattle.std.specs.Prelude.{◌≡◌, ◌<◌, option_map};
+ghost use Rattle.turns.specs.Attempt.{asked_in};
+ghost use Rattle.turns.specs.Sharings.{sharing_of};
 ghost use Rattle.turns.specs.World.{operation as operation_of, place as place_of};
 ghost use Rattle.attempts.specs.Answers.{answer_in};
 ghost use Rattle.attempts.specs.Of.{system_of};
+ghost use Rattle.desk_attempts.specs.Of.{now_of};
 
+use crate::now::asked;
 use crate::on_words::OnWords;
-use turns::lock_word::{request_bit, seized_by};
-use turns::{Act, Answer, Operation, Phase};
+use crate::speculation::SpeculationOf;
+use turns::{Act, Answer, LockSharing, Operation, Phase};
 
 /// The number of the word that a step is made on.
 pub(crate) fn place<S: OnWords<READINGS, HELD>, const READINGS: usize, const HELD: usize>(
@@ -36,34 +40,49 @@ pub(crate) fn operation<S: OnWords<READINGS, HELD>, const READINGS: usize, const
     actor: u32,
     step: Act<S::Lock, S::Effect>,
 ) -> Operation
-    requires { actor < 48 }
+    requires { actor < (sharing_of (S.system setting.now).sharing).most }
     ensures { let O = system_of S.Lock.eq S.Scripts setting.now in
         result ≡ operation_of O actor step }
 {
     match step {
-        Act::Request(_) => Operation::Or(request_bit(actor)),
-        Act::Seize(_, expected) => Operation::CompareExchange {
-            expected,
-            new: seized_by(actor, expected),
-        },
-        Act::Withdraw(_) => Operation::And(!request_bit(actor)),
-        Act::Free(_) => Operation::And(!63),
+        Act::Request(_) => S::sharing(setting).request(actor),
+        Act::Seize(_, expected) => S::sharing(setting).seize(actor, expected),
+        Act::Withdraw(_) => S::sharing(setting).withdrawal(actor),
+        Act::Free(_) => S::sharing(setting).freeing(),
         Act::Test(_) => Operation::Load,
-        Act::Turn => Operation::Add(1),
+        Act::Turn => S::clock(setting).turning(),
         Act::Finished => Operation::Load,
         Act::Make(effect) => S::effect_operation(setting, effect),
     }
 }
 
+/// The word of the lock that the attempt's next step requests or seizes.
+pub(crate) fn lock_to_acquire<S: OnWords<READINGS, HELD>, const READINGS: usize, const HELD: usize>(
+    setting: &S::Setting,
+    program: &SpeculationOf<S, READINGS, HELD>,
+) -> Option<usize>
+    ensures { result
+        ≡ option_map (S.system setting.now).lock_word
+        (asked_in (now_of S.Scripts program.now).phase) }
+{
+    let lock = asked::<S, READINGS, HELD>(program)?;
+    Some(S::lock_word(setting, lock))
+}
+
 /// The answer to the actor's next step in this phase, which found this number in its word.
 #[inline(always)]
-pub(crate) fn answer_in_phase<L: Copy>(actor: u32, phase: Phase<L, usize>, found: u64) -> Answer
-    requires { actor < 48 }
-    ensures { result ≡ answer_in phase actor found }
+pub(crate) fn answer_in_phase<L: Copy>(
+    sharing: LockSharing,
+    actor: u32,
+    phase: Phase<L, usize>,
+    found: u64,
+) -> Answer
+    requires { actor < (sharing_of sharing).most }
+    ensures { result ≡ answer_in (sharing_of sharing) phase actor found }
 {
     match phase {
-        Phase::Requests(_) => Answer::to_request(actor, found),
-        Phase::Seizes(_, expected) => Answer::to_seizing(actor, expected, found),
+        Phase::Requests(_) => Answer::to_request(sharing, actor, found),
+        Phase::Seizes(_, expected) => Answer::to_seize(sharing, actor, expected, found),
         Phase::Tests(_) => Answer::Value(found),
         Phase::Turns => Answer::Turn(found),
         Phase::Withdraws(_) => Answer::Done,

@@ -3,8 +3,8 @@ use Rattle.std.proofs.Common.{◌≡◌, ◌≢◌, ◌⊎◌, ℕ, zero, suc, �
 use mathlib.Core.Option.{some}
 use lib.ListN.{get_elem?}
 use Rattle.turns.specs.System.{System}
-use Rattle.turns.specs.Attempt.{AttemptOf, IsAnswerTo, act, act_in, answer_to, asked_in, change, next}
-use Rattle.std.specs.Prelude.{None}
+use Rattle.turns.specs.Attempt.{AttemptOf, IsAnswer, act, act_in, answer_to, asked_in, change, next}
+use Rattle.std.specs.Prelude.{Bool, false, None}
 use Rattle.turns.specs.declared.act.Act.{Act}
 use Rattle.turns.specs.declared.act.Act.TheVariants.{Finished, Request, Seize, Withdraw, Free, Test, Turn as TakesTurn, Make}
 use Rattle.turns.specs.declared.answer.Answer.{Answer}
@@ -22,16 +22,21 @@ use Rattle.desks.specs.Desks.{HasMade, asked_by}
 use Rattle.desks.specs.Kept.{number_found}
 
 -- each step may have a steady answer
-steady_answer : {Lock Effect : Type 0} (step : Act Lock Effect) → step ≢ Finished
-    → (answer : Answer) × IsAnswerTo step answer × IsSteady answer
-steady_answer Finished acts = absurd (acts refl)
-steady_answer (Request lock) acts = (Asked 0, tt, tt)
-steady_answer (Seize lock expected) acts = (Seized, tt, tt)
-steady_answer (Withdraw lock) acts = (Done, tt, tt)
-steady_answer (Free lock) acts = (Done, tt, tt)
-steady_answer (Test word) acts = (Value 0, omega arith, tt)
-steady_answer TakesTurn acts = (Turn 0, tt, tt)
-steady_answer (Make effect) acts = (Done, tt, tt)
+steady_request : (O : System) (asks : Bool) (lock : O.Lock) → O.sharing.asks ≡ asks
+    → (answer : Answer) × IsAnswer O (Request lock) answer × IsSteady answer
+steady_request O true lock is = (Asked 0, is, tt)
+steady_request O false lock is = (Seized, is, tt)
+
+steady_answer : (O : System) (step : Act O.Lock O.Effect) → step ≢ Finished
+    → (answer : Answer) × IsAnswer O step answer × IsSteady answer
+steady_answer O Finished acts = absurd (acts refl)
+steady_answer O (Request lock) acts = steady_request O O.sharing.asks lock refl
+steady_answer O (Seize lock expected) acts = (Seized, tt, tt)
+steady_answer O (Withdraw lock) acts = (Done, tt, tt)
+steady_answer O (Free lock) acts = (Done, tt, tt)
+steady_answer O (Test word) acts = (Value 0, omega arith, tt)
+steady_answer O TakesTurn acts = (Turn 0, tt, tt)
+steady_answer O (Make effect) acts = (Done, tt, tt)
 
 module _ (O : System) where
   -- an actor with nothing left to do is available
@@ -67,7 +72,7 @@ module _ (O : System) where
       let rest = leads k count step.number (next O k step.attempt found) after
       (subst (λ (m : ActorOf O). MadeSteadily O k count m after) step.after_is made.6) in
       let fits = answers_fit O k (act step.attempt) found step.goes_on (step.lawful.are_words (place O (act step.attempt))) in
-      let fit = subst (λ (told : Answer). IsAnswerTo (act step.attempt) told) (sym step.answer_is) fits in
+      let fit = subst (λ (told : Answer). IsAnswer O (act step.attempt) told) (sym step.answer_is) fits in
       record {
         number = rest.number;
         last = rest.last;
@@ -103,7 +108,7 @@ module _ (O : System) where
     at all (inl rests) =
         ap (is_available O) led.after_is ∙ available_is (Does led.number led.last) rests
     at all (inr acts) =
-        let one = steady_answer (act led.last) acts in
+        let one = steady_answer O (act led.last) acts in
         let whole = led.more (one.0 ∷ []) (one.1, one.2, tt) in
         let few = bounded whole.answers whole.steady in
         let long = whole.long in

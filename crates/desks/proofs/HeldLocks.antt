@@ -13,7 +13,7 @@ use Rattle.desks.specs.Desks.{IsSeated}
 use Rattle.desks.specs.Holders.{HasLoaded, WasHeldBy}
 use Rattle.desks.specs.Kept.{Fits, IsKept, KnownOf, PartOf}
 use Rattle.desks.specs.Parts.{seen_in}
-use Rattle.desks.specs.Rule.{Rule}
+use Rattle.desks.specs.Rule.{RuleOfWords}
 use Rattle.desks.proofs.Lookups.{there_below}
 use Rattle.desks.proofs.Moving.{length_set}
 
@@ -24,7 +24,7 @@ named_is (suc j) k e = cc
 module _ (O : System) where
   -- a load changes no word and no view, and keeps the rule
   pub allows_load : (count slots id place : ℕ) (me : Me (Unit {0}) (KnownOf O))
-      → Allows (Rule O count) slots id me place (λ n. n)
+      → Allows (RuleOfWords O count) slots id me place (λ n. n)
       (λ n after. (after.1 ≡ me.1) × HasLoaded O count place me.0 n after.0)
   allows_load count slots id place me s kept homes at range =
       let w : World O = record { words = s.words; actors = kept.actors; order = kept.order } in

@@ -1,8 +1,8 @@
 -- whatever a desk does with its job, it is the job that was assigned to it
 use Rattle.std.proofs.Common.{◌≡◌, ℕ, zero, suc, List, [], ◌∷◌, ◌++◌, refl, sym, ◌∙◌, ap}
-use Rattle.std.specs.Prelude.{Option, Some, Result, Ok, Err}
+use Rattle.std.specs.Prelude.{Bool, true, false, Option, Some, Result, Ok, Err, if◌then◌else◌}
 use Rattle.turns.specs.System.{System}
-use Rattle.turns.specs.Attempt.{AttemptOf, changed, giving_back, goes_on, operated, rest_of}
+use Rattle.turns.specs.Attempt.{AttemptOf, changed, denied, forgotten, giving_back, goes_on, operated, rest_of}
 use Rattle.turns.specs.World.{ActorOf, Idle, Does, RecordOf}
 use Rattle.turns.specs.declared.answer.Answer.{Answer}
 use Rattle.turns.specs.declared.answer.Answer.TheVariants.{Asked, Seized, Held, Preferred, Again, Value, Turn as TurnNumber, Done}
@@ -32,10 +32,15 @@ module _ (O : System) where
   operated_job a [] = refl
   operated_job a (effect ∷ effects) = refl
 
+  denied_job : (asks : Bool) (a : AttemptOf O) (lock : Lock) → (if asks then denied a lock else giving_back O (forgotten a) a.held).job ≡ a.job
+  denied_job true a lock = refl
+  denied_job false a lock = freed_job (forgotten a) a.held
+
   changed_job : (a : AttemptOf O) (phase : Phase Lock ℕ) (answer : Answer) → (changed O a phase answer).job ≡ a.job
   changed_job a (Requests lock) (Asked word) = refl
-  changed_job a (Requests lock) (Held holder) = refl
-  changed_job a (Requests lock) (Preferred other) = refl
+  changed_job a (Requests lock) Seized = goes_job (record a { held = a.held ++ lock ∷ [] }) _
+  changed_job a (Requests lock) (Held holder) = denied_job O.sharing.asks a lock
+  changed_job a (Requests lock) (Preferred other) = denied_job O.sharing.asks a lock
   changed_job a (Seizes lock expected) Seized = goes_job (record a { held = a.held ++ lock ∷ [] }) _
   changed_job a (Seizes lock expected) (Held holder) = refl
   changed_job a (Seizes lock expected) (Preferred other) = refl

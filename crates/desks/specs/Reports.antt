@@ -2,6 +2,7 @@
 use Rattle.std.specs.Prelude.{◌≡◌, ◌≤◌, ◌<◌, ◌^◌, ℕ, Bool, true, false, List, [], ◌∷◌, ◌++◌, length, Option, Some, None, option_map, option_to_list, IfSome, slice_get}
 use Rattle.turns.specs.Among.{IsIn}
 use Rattle.turns.specs.Runs.{is_available}
+use Rattle.turns.specs.Clock.{IsCounted}
 use Rattle.turns.specs.System.{System}
 use Rattle.turns.specs.World.{ActorOf, Does, Idle, RecordOf}
 use Rattle.desks.specs.declared.progress.Progress.{Progress}
@@ -55,12 +56,12 @@ module _ (O : System) where
         → own k seen_after ≡ log ++ (reported ++ unreported k after)
 
   -- a record comes after all that had been seen: it is later in the order, and its turn has a
-  -- greater number, as long as a word can count the turns
+  -- greater number, if turns are counted and a word can count them
   pub record ComesAfter (seen seen_after : List (RecordOf O)) (r : RecordOf O) : Type 0 where
     pub later : List (RecordOf O)
     pub after_is : seen_after ≡ seen ++ later
     pub within : IsIn r later
-    pub turn : length seen_after ≤ 2 ^ 64 → length seen ≤ r.turn
+    pub turn : IsCounted O.clock → length seen_after ≤ 2 ^ 64 → length seen ≤ r.turn
 
   -- logs, one for each actor of a room, make up an order: each log is its actor's own records of
   -- the order, and the order has no other records

@@ -8,10 +8,9 @@ ghost use Rattle.turns.specs.System.{system_of};
 use crate::desk::Desk;
 use crate::jobs::Jobs;
 use crate::room::Room;
-use crate::steps::{SeatView, Words, perform};
+use crate::steps::{SeatView, Words, load};
 use atomic_table::Seat;
 use std::marker::Brand;
-use turns::Operation;
 
 /// Loads a lock's own word.
 fn load_lock_word<F: Jobs>(
@@ -22,15 +21,14 @@ fn load_lock_word<F: Jobs>(
 ) -> u64
     requires setting { F.IsSetting setting.now }
     requires table { seat.old.table_id ≡ shared.now.table_id }
-    requires words { shared.now.table_id.words ≡ (F.system setting.now).size }
+    requires words { shared.now.table_id.words ≡ (F.places setting.now).count }
     requires key { shared.now.key.setting.value ≡ setting.now }
     requires lock { (F.system setting.now).IsLock lock.now }
     ensures same { (seat.new.table_id ≡ seat.old.table_id) × (seat.new.me ≡ seat.old.me) }
     ensures loaded { HasLoaded (system_of (F.system setting.now)) shared.now.key.count
         ((F.system setting.now).lock_word lock.now) seat.old.me.0 result seat.new.me.0 }
 {
-    let place = F::lock_word(setting, lock);
-    perform::<F, Brand>(shared, seat, place, Operation::Load)
+    load::<F, Brand>(shared, setting, seat, F::lock_word(setting, lock))
 }
 
 impl<F: Jobs> Desk<F> {

@@ -35,11 +35,12 @@ fn test_predictions<F: Jobs, W: Watch>(
     program: &F::Program,
     watch: &mut W,
 ) -> (usize, Option<u64>)
-    requires at_work { IsAtWork (system_of (F.system setting.now)) (F.IsSetting setting.now)
-        (F.IsValid setting.now program.now) setting.now shared.now.key.setting.value
+    requires at_work { IsAtWork (system_of (F.system setting.now)) (F.places setting.now)
+        (F.IsSetting setting.now) (F.IsValid setting.now program.now) setting.now shared.now.key.setting.value
         shared.now.table_id seat.old.table_id seat.old.me actor number (F.attempt program.now) }
     ensures at_work { let O = system_of (F.system setting.now) in
-        IsAtWork O (F.IsSetting setting.now) (F.IsValid setting.now program.now) setting.now
+        IsAtWork O (F.places setting.now) (F.IsSetting setting.now)
+        (F.IsValid setting.now program.now) setting.now
         shared.now.key.setting.value shared.now.table_id seat.new.table_id seat.new.me actor number
         (corrected O
         (confirmed O (F.attempt program.now) (F.predictions_of program.now) result.0) result.1) }
@@ -104,11 +105,11 @@ pub(crate) fn read_predictions<F: Jobs, W: Watch>(
     snapshot: &mut [u64],
     watch: &mut W,
 ) -> usize
-    requires { IsAtWork (system_of (F.system setting.now)) (F.IsSetting setting.now)
-        (F.IsValid setting.now program.old) setting.now shared.now.key.setting.value
+    requires { IsAtWork (system_of (F.system setting.now)) (F.places setting.now)
+        (F.IsSetting setting.now) (F.IsValid setting.now program.old) setting.now shared.now.key.setting.value
         shared.now.table_id seat.old.table_id seat.old.me actor number (F.attempt program.old) }
-    ensures at_work { IsAtWork (system_of (F.system setting.now)) (F.IsSetting setting.now)
-        (F.IsValid setting.now program.new) setting.now shared.now.key.setting.value
+    ensures at_work { IsAtWork (system_of (F.system setting.now)) (F.places setting.now)
+        (F.IsSetting setting.now) (F.IsValid setting.now program.new) setting.now shared.now.key.setting.value
         shared.now.table_id seat.new.table_id seat.new.me actor number (F.attempt program.new) }
     ensures few { result < 2 ^ 63 }
     ensures come { HasComeTo (system_of (F.system setting.now)) actor number result

@@ -50,7 +50,8 @@ fn judges_a_plain_word(rt: HostRuntime) {
         (0, Judgement::Free),
         (1, Judgement::Held(0)),
         (64, Judgement::Held(63)),
-        (1 << 32, Judgement::Held(u32::MAX)),
+        (0xffff_ffff, Judgement::Held(u32::MAX - 1)),
+        (1 << 32, Judgement::Free),
     ] {
         assert_eq!(rt; Judgement::plain(word), want, "word {word}");
     }

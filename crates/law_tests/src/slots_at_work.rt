@@ -16,19 +16,19 @@ use std::alloc::Global;
 use std::ops::Range;
 use std::test::Fail;
 use workers::{
-    BackOff, Routine, Yielding, at_once, do_after, finish, last_desk, persist, put_desk,
+    BackOff, Pausing, Routine, at_once, do_after, finish, last_desk, persist, put_desk,
     shut_if_idle,
 };
 
-/// Gives up after one try, of three steps.
+/// Gives up after one try, in which the desk makes no step.
 struct OneTry;
 
 impl BackOff for OneTry {
     fn patience(&self, _desk: u32) -> u32 {
-        3
+        0
     }
 
-    fn try_again(&self, _made: u64) -> bool {
+    fn try_again(&self, _made: u64, _denied: Option<usize>) -> bool {
         false
     }
 }
@@ -207,11 +207,11 @@ fn two_desks_take_and_give_slots_in_turn(rt: HostRuntime) -> Result<(), Fail> {
 fn a_job_comes_after_those_of_a_note(rt: HostRuntime) -> Result<(), Fail> {
     let (room, mut zero, mut one) = room_of_two(rt.alloc())?;
     assert!(rt; one.assign(5, Job::Take));
-    let first = persist(&room, &(), &mut one, &Yielding).ok_or("the first job ends")?;
+    let first = persist(&room, &(), &mut one, &Pausing::SHORT).ok_or("the first job ends")?;
     let mut note = one.note(&room);
     let copy = note.copy(&room);
     drop(note);
-    let then = do_after(&room, &(), &mut zero, copy, 6, Job::Take, &Yielding).ok_or(
+    let then = do_after(&room, &(), &mut zero, copy, 6, Job::Take, &Pausing::SHORT).ok_or(
         "the second job ends",
     )?;
     assert!(rt; first.turn == 0 && first.actor == 1 && first.number == 5);
@@ -225,8 +225,8 @@ fn a_job_comes_after_those_of_a_note(rt: HostRuntime) -> Result<(), Fail> {
 fn a_room_is_shut_during_a_job(rt: HostRuntime) -> Result<(), Fail> {
     let (room, zero, mut one) = room_of_two(rt.alloc())?;
     assert!(rt; one.assign(0, Job::Take));
-    // Request and seize the bank's lock, test its word, turn, mark a slot; the lock is still held.
-    assert!(rt; finish(&room, &(), &mut one, 5).is_none());
+    // Seize the bank's lock, test its word, turn, mark a slot; the lock is still held.
+    assert!(rt; finish(&room, &(), &mut one, 4).is_none());
     let Ok(words) = shut::<SlotJobs>(rt.alloc(), room, &(), zero) else {
         return Err("there is memory for five words".into());
     };
@@ -254,15 +254,15 @@ fn a_shift_goes_on_with_its_job(rt: HostRuntime) -> Result<(), Fail> {
     let (room, zero, _one) = room_of_two(alloc)?;
     let mut shift = Shift::new(alloc, zero);
     assert!(rt; !shift.work(&room, &(), 7, Job::Take, &OneTry));
-    assert!(rt; !shift.work(&room, &(), 8, Job::Take, &Yielding));
+    assert!(rt; !shift.work(&room, &(), 8, Job::Take, &Pausing::SHORT));
     assert!(rt; shift.last().is_none());
-    assert!(rt; shift.go_on(&room, &(), &Yielding));
+    assert!(rt; shift.go_on(&room, &(), &Pausing::SHORT));
     assert!(rt;
         shift
             .last()
             .is_some_and(|reported| reported.number == 7 && reported.turn == 0)
     );
-    assert!(rt; !shift.go_on(&room, &(), &Yielding));
+    assert!(rt; !shift.go_on(&room, &(), &Pausing::SHORT));
     assert!(rt; shift.log.len() == 1);
     Ok(())
 }
@@ -272,8 +272,8 @@ fn a_lost_desk_keeps_its_lock(rt: HostRuntime) -> Result<(), Fail> {
     let (room, mut zero, mut one) = room_of_two(rt.alloc())?;
     assert_eq!(rt; zero.holder(&room, &(), &0), None);
     assert!(rt; one.assign(0, Job::Take));
-    // Request and seize the lock of bank 0.
-    assert!(rt; finish(&room, &(), &mut one, 2).is_none());
+    // Seize the lock of bank 0.
+    assert!(rt; finish(&room, &(), &mut one, 1).is_none());
     assert_eq!(rt; one.holder(&room, &(), &0), Some(1));
     drop(one);
     assert!(rt; zero.assign(1, Job::Take));

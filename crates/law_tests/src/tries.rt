@@ -8,11 +8,12 @@ use desks::{Room, Watch};
 use slot_desks::SlotJobs;
 use slot_desks::driving::{Shift, SlotDesk, SlotRoom, take_and_give};
 use slots::Job;
+use std::alloc::Global;
 use std::cell::RefCell;
 use std::marker::Model;
 use std::process::Abort;
 use std::test::Fail;
-use workers::{BackOff, Yielding, do_after, do_all, finish, persist};
+use workers::{BackOff, Pausing, do_after, do_all, finish, persist};
 
 /// The holders of the banks' locks, and how many tries had been made when they were seen.
 #[derive(Clone, Copy, Debug, PartialEq, Eq)]
@@ -58,22 +59,23 @@ impl Watch for Onlooker<'_> {
     }
 }
 
-/// Looks who holds the locks after each try, and gives up after `most` tries of `steps` steps.
+/// Looks who holds the locks after each try, and gives up after `most` tries, in each of which the
+/// desk goes on `patience` times.
 #[derive(Drop)]
 struct Looking<'a> {
     onlooker: RefCell<Onlooker<'a>>,
-    steps: u32,
+    patience: u32,
     most: u64,
 }
 
 impl BackOff for Looking<'_> {
-    ghost Answers = { λ policy made again. again ≡ nat_lt made policy.most };
+    ghost Answers = { λ policy made _ again. again ≡ nat_lt made policy.most };
 
     fn patience(&self, _desk: u32) -> u32 {
-        self.steps
+        self.patience
     }
 
-    fn try_again(&self, made: u64) -> bool
+    fn try_again(&self, made: u64, _denied: Option<usize>) -> bool
         ensures { result ≡ nat_lt made self.now.most }
     {
         if let Ok(mut onlooker) = self.onlooker.try_borrow_mut() {
@@ -84,12 +86,12 @@ impl BackOff for Looking<'_> {
 }
 
 impl<'a> Looking<'a> {
-    fn new(room: &'a SlotRoom, desk: SlotDesk, sights: Vec<Sight>, steps: u32, most: u64) -> Self
+    fn new(room: &'a SlotRoom, desk: SlotDesk, sights: Vec<Sight>, patience: u32, most: u64) -> Self
         requires { IsDeskOf desk room.now tt }
     {
         Looking {
             onlooker: RefCell::new(Onlooker { room, desk, sights }),
-            steps,
+            patience,
             most,
         }
     }
@@ -109,21 +111,87 @@ impl<'a> Looking<'a> {
     }
 }
 
-/// Gives up after four tries of three steps.
+/// Gives up after four tries, in none of which the desk makes a step.
 struct FourTries;
 
 impl BackOff for FourTries {
-    ghost Answers = { λ _ made again. again ≡ nat_lt made 4 };
+    ghost Answers = { λ _ made _ again. again ≡ nat_lt made 4 };
 
     fn patience(&self, _desk: u32) -> u32 {
-        3
+        0
     }
 
-    fn try_again(&self, made: u64) -> bool
+    fn try_again(&self, made: u64, _denied: Option<usize>) -> bool
         ensures { result ≡ nat_lt made 4 }
     {
         made < 4
     }
+}
+
+/// Notes which lock each try was denied, and gives up after `most` tries, in each of which the desk
+/// goes on `patience` times.
+#[derive(Drop)]
+struct Noting {
+    denials: RefCell<Vec<Option<usize>>>,
+    patience: u32,
+    most: u64,
+}
+
+impl BackOff for Noting {
+    ghost Answers = { λ policy made _ again. again ≡ nat_lt made policy.most };
+
+    fn patience(&self, _desk: u32) -> u32 {
+        self.patience
+    }
+
+    fn try_again(&self, made: u64, denied: Option<usize>) -> bool
+        ensures { result ≡ nat_lt made self.now.most }
+    {
+        if let Ok(mut denials) = self.denials.try_borrow_mut() {
+            // Without memory a denial is missing, and the test fails.
+            let _noted = denials.push(denied);
+        }
+        made < self.most
+    }
+}
+
+impl Noting {
+    fn new(alloc: Global, patience: u32, most: u64) -> Self {
+        Noting {
+            denials: RefCell::new(Vec::new(alloc)),
+            patience,
+            most,
+        }
+    }
+
+    fn was_told(&self, denials: &[Option<usize>]) -> bool {
+        match self.denials.try_borrow() {
+            Ok(told) => told.as_slice() == denials,
+            Err(_) => false,
+        }
+    }
+}
+
+#[test]
+fn a_policy_is_told_which_lock_was_denied(rt: HostRuntime) -> Result<(), Fail> {
+    let alloc = rt.alloc();
+    let (room, mut zero, mut one) = room_of_two(alloc)?;
+    assert!(rt; zero.assign(0, Job::Take));
+    // Seize the lower lock, and test its bank's word.
+    assert!(rt; finish(&room, &(), &mut zero, 2).is_none());
+    assert!(rt; one.assign(0, Job::Take));
+    let denied = Noting::new(alloc, 30, 3);
+    assert!(rt; persist(&room, &(), &mut one, &denied).is_none());
+    // The two banks have the words 0 and 1, and their locks 2 and 3.
+    assert!(rt; denied.was_told([Some(2); 3].as_slice()));
+    // To seize the lower lock, and to test its bank's word.
+    let slow = Noting::new(alloc, 1, 2);
+    assert!(rt; persist(&room, &(), &mut zero, &Pausing::SHORT).is_some());
+    assert!(rt; persist(&room, &(), &mut one, &Pausing::SHORT).is_some());
+    assert!(rt; one.assign(2, Job::TakeBoth));
+    assert!(rt; persist(&room, &(), &mut one, &slow).is_none());
+    assert!(rt; slow.was_told([None, None].as_slice()));
+    Ok(())
 }
 
 #[test]
@@ -131,8 +199,8 @@ fn a_watch_is_called_before_each_step(rt: HostRuntime) -> Result<(), Fail> {
     let alloc = rt.alloc();
     let (room, zero, mut one) = room_of_two(alloc)?;
     assert!(rt; one.assign(0, Job::TakeBoth));
-    // Request and seize the lock of each bank, and test its word.
-    assert!(rt; finish(&room, &(), &mut one, 6).is_none());
+    // Seize the lock of each bank, and test its word.
+    assert!(rt; finish(&room, &(), &mut one, 4).is_none());
     let mut watch = Onlooker {
         room: &room,
         desk: zero,
@@ -158,20 +226,21 @@ fn a_watch_is_called_before_each_step(rt: HostRuntime) -> Result<(), Fail> {
 fn no_lock_is_held_between_tries(rt: HostRuntime) -> Result<(), Fail> {
     let alloc = rt.alloc();
     let (room, zero, mut one) = room_of_two(alloc)?;
-    // Five steps: request and seize the lower lock, test the word, request and seize the upper one.
-    let policy = Looking::new(&room, zero, Vec::new(alloc), 5, 4);
+    // To seize the lower lock, and to test its bank's word.
+    let policy = Looking::new(&room, zero, Vec::new(alloc), 1, 4);
     assert!(rt; persist(&room, &(), &mut one, &policy).is_none());
     assert!(rt; policy.has_seen_free_locks(0));
     assert!(rt; one.assign(0, Job::TakeBoth));
     assert!(rt; persist(&room, &(), &mut one, &policy).is_none());
     assert!(rt; policy.has_seen_free_locks(4));
     assert!(rt; !one.is_idle());
-    let reported = persist(&room, &(), &mut one, &Yielding).ok_or("the job ends")?;
+    let reported = persist(&room, &(), &mut one, &Pausing::SHORT).ok_or("the job ends")?;
     assert!(rt; reported.turn == 0 && reported.number == 0);
     Ok(())
 }
 
-/// Has a worker give back the slot of this number, and checks that the job ended.
+/// Has a worker give back the slot of this number. Checks that its job is ended from past its turn,
+/// by a policy without patience.
 fn check_given(
     rt: &impl Abort,
     room: &SlotRoom,
@@ -184,8 +253,10 @@ fn check_given(
     ensures { IsDeskOf one.new room.now tt }
 {
     let number = u64::from(slot);
-    let note = one.note(room);
-    let reported = do_after(room, &(), one, note, number, Job::Give(slot), policy);
+    assert!(rt; one.assign(number, Job::Give(slot)));
+    // Seize a lock, turn, clear the slot's bit. The lock is still held then.
+    assert!(rt; finish(room, &(), one, 3).is_none());
+    let reported = persist(room, &(), one, policy);
     assert!(rt; reported.is_some_and(|reported| reported.number == number));
 }
 
@@ -193,8 +264,7 @@ fn check_given(
 fn a_job_past_its_turn_is_brought_to_its_end(rt: HostRuntime) -> Result<(), Fail> {
     let alloc = rt.alloc();
     let (room, zero, mut one) = room_of_two(alloc)?;
-    // Request and seize a lock, turn, clear the slot's bit. The lock is still held then.
-    let policy = Looking::new(&room, zero, Vec::new(alloc), 4, 1);
+    let policy = Looking::new(&room, zero, Vec::new(alloc), 0, 1);
     check_given(&rt, &room, &mut one, &policy, 0);
     check_given(&rt, &room, &mut one, &policy, 1);
     check_given(&rt, &room, &mut one, &policy, 2);
@@ -223,7 +293,7 @@ fn check_undone(
 fn a_desk_that_is_not_free_does_no_other_job(rt: HostRuntime) -> Result<(), Fail> {
     let alloc = rt.alloc();
     let (room, zero, mut one) = room_of_two(alloc)?;
-    let policy = Looking::new(&room, zero, Vec::new(alloc), 3, 2);
+    let policy = Looking::new(&room, zero, Vec::new(alloc), 0, 2);
     check_undone(&rt, &room, &mut one, &policy, 1_001);
     check_undone(&rt, &room, &mut one, &policy, 1_002);
     Ok(())
@@ -234,7 +304,7 @@ fn workers_do_all_jobs_unless_they_give_up(rt: HostRuntime) -> Result<(), Fail> 
     let alloc = rt.alloc();
     let next = |_desk, ended| (ended < 2_500).then_some(Job::Take);
     let (room, desks) = Room::<SlotJobs>::open(alloc, &(), 2)?;
-    let shifts = do_all(&rt, alloc, &room, &(), desks, &next, &Yielding)?;
+    let shifts = do_all(&rt, alloc, &room, &(), desks, &next, &Pausing::SHORT)?;
     for shift in shifts.iter() {
         assert!(rt; shift.desk.is_idle());
         assert!(rt; shift.log.len() == 2_500);

@@ -1,7 +1,8 @@
 //! Whole runs of the program, on streams that may fail.
 
 use crossbar5::{Counted, Sink, Source};
-use crossbar5_cli::{Exit, System, Work, run_words};
+use crossbar5_cli::{Exit, System, run_words};
+use crossbar5_command::Work;
 use std::alloc::{AllocError, Global};
 use std::fs::File;
 use std::io;
@@ -52,7 +53,7 @@ impl System for PlanText {
         Ok(Counted::new(self.text.as_bytes()))
     }
 
-    fn begin(&self, _work: Work<'_>) {}
+    fn begin(&self, _work: &Work) {}
 
     fn end(&self) {}
 }
@@ -70,7 +71,7 @@ impl System for RealFiles<'_> {
         Ok(Counted::new(File::open(self.rt, name)?))
     }
 
-    fn begin(&self, _work: Work<'_>) {}
+    fn begin(&self, _work: &Work) {}
 
     fn end(&self) {}
 }

@@ -6,7 +6,7 @@ use Rattle.turns.specs.World.{RecordOf}
 use Rattle.turns.proofs.Lists.{in_front, in_back, in_either}
 use Rattle.desks.proofs.LegalTurns.{legal_behind, legal_front, turn_within}
 use Rattle.slots.specs.System.{slots}
-use Rattle.slots.specs.Taken.{IsGivenBack, Took}
+use Rattle.slots.specs.Taken.{IsGivenBack}
 use Rattle.slots.specs.declared.job.Job.TheVariants.{Give}
 use Rattle.slots.proofs.TakenOnce.{taken_once}
 use Rattle.desks.specs.Reports.{MakeUp}
@@ -53,7 +53,7 @@ behind before rest r other legal few later within = elim (in_either other before
   | inl front ↦
       let long = length-append before (r ∷ rest) in
       let at = turn_is before rest r legal few in
-      let h = (turn_within slots 0 slots.opening before other (legal_front slots 0 slots.opening before (r ∷ rest) legal) front (omega (arith, long, few))).1 in
+      let h = (turn_within slots tt 0 slots.opening before other (legal_front slots 0 slots.opening before (r ∷ rest) legal) front (omega (arith, long, few))).1 in
       absurd (omega (arith, at, h, later))
   | inr (inl e) ↦ let same : other.turn ≡ r.turn = ap (λ (x : RecordOf slots). x.turn) e in absurd (omega (arith, same, later))
   | inr (inr rest) ↦ rest
@@ -68,7 +68,7 @@ module _ (before between later : Order) (r other : RecordOf slots) (legal : IsLe
       let at = turn_is before (between ++ other ∷ later) r legal few in
       let from = legal_behind slots 0 slots.opening before (r ∷ (between ++ other ∷ later)) legal in
       let front = legal_front slots (suc (0 + length before)) (slots.whole from.state r.job).state between (other ∷ later) from.legal.3 in
-      let h = turn_within slots (suc (0 + length before)) (slots.whole from.state r.job).state between back front within (omega (arith, long, long', few)) in
+      let h = turn_within slots tt (suc (0 + length before)) (slots.whole from.state r.job).state between back front within (omega (arith, long, long', few)) in
       let next = legal_behind slots (suc (0 + length before)) (slots.whole from.state r.job).state between (other ∷ later) from.legal.3 in
       let small : suc (0 + length before) + length between < 2 ^ 64 = omega (arith, long, long', few) in
       let same : (suc (0 + length before) + length between) % 2 ^ 64 ≡ suc (0 + length before) + length between = omega (arith, small) in

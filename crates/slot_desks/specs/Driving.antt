@@ -9,7 +9,7 @@ use Rattle.slots.specs.System.{slots}
 use Rattle.slots.specs.declared.bank.TheConstants.{SLOT_COUNT}
 use Rattle.slots.specs.declared.job.Job.{Job}
 use Rattle.slots.specs.declared.job.Job.TheVariants.{Give, Take, TakeBoth}
-use Rattle.workers.specs.Tries.{AnswersYielding, IsStuck}
+use Rattle.workers.specs.Tries.{AnswersPausing, IsStuck}
 
 -- a record of a job, and a list of such records
 abbrev pub Recorded : Type 0
@@ -29,7 +29,7 @@ IsFree desk = is_available slots desk.actor ≡ true
 -- a worker can't go on: its log of this length and capacity has no room, or it has given up its
 -- desk's job
 abbrev pub CantGoOn : ℕ → ℕ → DeskOf slots (Unit {0}) → Type 0
-CantGoOn len capacity desk = IsStuck slots AnswersYielding len capacity desk.actor
+CantGoOn len capacity desk = IsStuck slots AnswersPausing len capacity desk.actor
 
 -- one more record was logged: of this job, under this number, with these slots as its reply
 pub record LogsJob (log log_after : LogOf) (number : ℕ) (job : Job) (taken : List ℕ) : Type 0 where

@@ -13,7 +13,7 @@ use crate::jobs::SlotJobs;
 use desks::{Desk, JobRecord, Progress, Room};
 use slots::bank::SLOT_COUNT;
 use slots::{Job, Taken, UpToTwo};
-use workers::Yielding;
+use workers::Pausing;
 
 /// The shared words of the slots.
 pub type SlotRoom = Room<SlotJobs>;
@@ -45,7 +45,7 @@ fn work(room: &SlotRoom, shift: &mut Shift, number: u64, job: Job) -> Option<UpT
     ensures stuck { IsFree shift.old.desk → IfNone result
         (CantGoOn (vec_len shift.new.log) (vec_capacity shift.new.log) shift.new.desk) }
 {
-    if !shift.work(room, &(), number, job, &Yielding) {
+    if !shift.work(room, &(), number, job, &Pausing::SHORT) {
         return None;
     }
     // Called for its clause that what the desk has seen is legal.

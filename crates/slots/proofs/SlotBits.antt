@@ -1,16 +1,17 @@
 -- a slot's bit in its bank's word
-use Rattle.std.proofs.Common.{◌≡◌, ◌≢◌, ℕ, ◌-◌, ◌/◌, ◌%◌, ◌^◌, ◌<◌, ◌≤◌, ◌⊎◌, Bool, true, false, List, [], ◌∷◌, length, slice_index, slice_set, length-set, inl, inr, refl, sym, ◌∙◌, ap, arith, pow_mono, bit_and, bit_or}
-use Rattle.std.specs.Prelude.{◌==◌, ◌||◌, ◌&&◌, not, map, min}
-use Rattle.std.specs.Int.{bit_at, w64}
+use Rattle.std.proofs.Common.{◌≡◌, ◌≢◌, ℕ, ◌+◌, ◌-◌, ◌*◌, ◌/◌, ◌%◌, ◌^◌, ◌<◌, ◌≤◌, ◌⊎◌, Bool, true, false, List, [], ◌∷◌, length, slice_index, slice_set, length-set, inl, inr, refl, sym, ◌∙◌, ap, arith, pow_mono, bit_and, bit_or}
+use Rattle.std.specs.Prelude.{◌==◌, ◌||◌, ◌&&◌, None, Some, not, map, min}
+use Rattle.std.specs.Int.{bit_at, trailing_ones, w64}
+use Rattle.std.proofs.lemmas.Nat.{and_le_r}
 use Rattle.std.proofs.lemmas.Bool.{eqb-true, eqb-false}
-use Rattle.std.proofs.lemmas.Nat.Bits.{bit_at_or, bit_at_and, bit_at_not, bit_at-pow_same, bit_at-pow_other, bit_at-lt}
+use Rattle.std.proofs.lemmas.Nat.Bits.{bit_at_or, bit_at_and, bit_at_not, bit_at-pow_same, bit_at-pow_other, bit_at-lt, bit_at_ones, bit_at-trailing_ones}
 use Rattle.turns.specs.System.{perform, perform_all, AreDue}
 use Rattle.turns.proofs.Lists.{one_or_two, index_same, index_other}
 use Rattle.slots.specs.declared.bank.TheConstants.{BANK_SIZE, SLOT_COUNT}
 use Rattle.slots.specs.Slots.{Busy, with_slot, with_slots, without_slot}
-use Rattle.slots.specs.System.{Shows, slots}
+use Rattle.slots.specs.System.{Shows, free_in, slots}
 use Rattle.slots.specs.declared.effect.Effect.TheVariants.{Mark, Clear}
-use Rattle.slots.proofs.FreeSlots.{AreFree}
+use Rattle.slots.proofs.FreeSlots.{AreFree, lowest_is, lowest_none}
 
 -- a word with one of its lowest 32 bits set to a value, and the others as they were
 record IsOneBit (word place value after : ℕ) : Type 0 where
@@ -34,6 +35,43 @@ cleared word place few = record {
 } where
   bit : (p : ℕ) → p < BANK_SIZE → bit_at (bit_and word (2 ^ 64 - 1 - 2 ^ place)) p ≡ min (bit_at word p) (1 - bit_at (2 ^ place) p)
   bit p low = bit_at_and word (2 ^ 64 - 1 - 2 ^ place) p ∙ ap (min (bit_at word p)) (bit_at_not w64 (2 ^ place) p (place_below place few) (omega arith))
+
+-- the bits of a bank's slots in its word
+abbrev pub low_bits : ℕ → ℕ
+low_bits word = bit_and word (2 ^ 32 - 1)
+
+low_bit : (word place : ℕ) → place < BANK_SIZE → bit_at (low_bits word) place ≡ bit_at word place
+low_bit word place few = omega (arith, bit_at_and word (2 ^ 32 - 1) place, bit_at_ones 32 place few, bit_at-lt word place)
+
+low_fits : (word : ℕ) → low_bits word + 1 < 2 ^ 64
+low_fits word = let small = and_le_r word (2 ^ 32 - 1) in omega (arith, small)
+
+-- the slots before the lowest 0 of the word are taken, and that one is free
+module _ (bank word : ℕ) (two : bank < 2) where
+  abbrev pub lowest_zero : ℕ
+  lowest_zero = trailing_ones w64 (low_bits word)
+
+  first_zero : (lowest_zero < 64) × (bit_at (low_bits word) lowest_zero ≡ 0) × ((i : ℕ) → i < lowest_zero → bit_at (low_bits word) i ≡ 1)
+  first_zero = bit_at-trailing_ones w64 (low_bits word) (low_fits word)
+
+  abbrev taken_in : Busy
+  taken_in s = bit_at word (s % BANK_SIZE) == 1
+
+  taken_before : (s : ℕ) → BANK_SIZE * bank ≤ s → s < BANK_SIZE * bank + BANK_SIZE → s < BANK_SIZE * bank + lowest_zero → taken_in s ≡ true
+  taken_before s from within before =
+      let few : s % BANK_SIZE < BANK_SIZE = omega arith in
+      let one = first_zero.2 (s % BANK_SIZE) (omega (arith, from, within, before)) in
+      ap (λ (n : ℕ). n == 1) (sym (low_bit word (s % BANK_SIZE) few) ∙ one)
+
+  pub zero_free : lowest_zero < BANK_SIZE → free_in bank word ≡ Some (BANK_SIZE * bank + lowest_zero)
+  zero_free few =
+      let place : (BANK_SIZE * bank + lowest_zero) % BANK_SIZE ≡ lowest_zero = omega (arith, few) in
+      lowest_is taken_in (BANK_SIZE * bank) BANK_SIZE (BANK_SIZE * bank + lowest_zero) (omega arith) (omega (arith, few))
+      (λ s from before. taken_before s from (omega (arith, few, before)) before)
+      (ap (λ (n : ℕ). bit_at word n == 1) place ∙ ap (λ (n : ℕ). n == 1) (sym (low_bit word lowest_zero few) ∙ first_zero.1))
+
+  pub zero_none : BANK_SIZE ≤ lowest_zero → free_in bank word ≡ None
+  zero_none all = lowest_none taken_in (BANK_SIZE * bank) BANK_SIZE (λ s from within. taken_before s from within (omega (arith, all, within)))
 
 module _ (words : List ℕ) (long : length words ≡ 5) (slot : ℕ) (below : slot < SLOT_COUNT) (value after : ℕ) (one : IsOneBit (slice_index words (slot / BANK_SIZE)) (slot % BANK_SIZE) value after) where
   -- the slot's bit, and that of another slot, once the word is set

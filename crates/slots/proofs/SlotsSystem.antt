@@ -10,7 +10,7 @@ use Rattle.turns.specs.System.{IsSystem, IsUnder, AreAlike, KeepsTo, DecidesAs, 
 use Rattle.turns.specs.declared.wanted.Wanted.TheVariants.{Seize}
 use Rattle.turns.proofs.Layouts.{ones_are, words_apart, zeros_open}
 use Rattle.turns.proofs.OwnSystem.{makes_more, makes_none, same_number, under_its_lock, zero_at}
-use Rattle.turns.proofs.Preferring.{preferring_is, zero_unused}
+use Rattle.turns.proofs.Plain.{plain_is}
 use Rattle.slots.specs.declared.bank.TheConstants.{BANK_SIZE, SLOT_COUNT}
 use Rattle.slots.specs.Slots.{Busy, none_busy, lowest_free, both_of, took, whole}
 use Rattle.slots.specs.System.{Shows, and_upper, banks, first_lock, free_in, IsJob, or_upper, script, slot_jobs, slot_steps, slots, upper_steps, upper_too_steps}
@@ -146,12 +146,12 @@ opens_shown = record { bits = λ slot below. sym (ap (λ (n : ℕ). bit_at n (sl
 
 pub slots_system : IsSystem slots
 slots_system = record {
-  sharing = preferring_is;
+  sharing = plain_is;
   same = same_number;
   words = words_apart banks slot_jobs (ones_are 2);
   first = λ job right. firsts job;
   keeps = keeps;
   decides = λ job words busy right long are shows. decides words busy long shows job right;
   looks = looks;
-  opens = zeros_open banks slot_jobs opens_shown zero_unused;
+  opens = zeros_open banks slot_jobs opens_shown (record { is_word = omega arith; free = refl; unasked = λ j few. refl });
 }

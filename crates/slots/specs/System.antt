@@ -2,8 +2,9 @@ use Rattle.std.specs.Prelude.{◌≡◌, ℕ, ◌-◌, ◌*◌, ◌/◌, ◌%◌
 use Rattle.std.specs.Int.{bit_at}
 use Rattle.turns.specs.Layouts.{Layout, JobsOver, laid_out, one_each}
 use Rattle.turns.specs.Script.{Script, Ends, ◌>>=◌, ◌>>◌, seize, test}
-use Rattle.turns.specs.Sharings.{preferring}
+use Rattle.turns.specs.Sharings.{plain}
 use Rattle.turns.specs.System.{System, SystemOver, system_of}
+use Rattle.turns.specs.declared.clock.Clock.TheVariants.{Counted}
 use Rattle.turns.specs.declared.operation.Operation.{Operation}
 use Rattle.turns.specs.declared.operation.Operation.TheVariants.{Or, And}
 use Rattle.slots.specs.Slots.{Busy, none_busy, lowest_free, both_of, whole}
@@ -110,7 +111,8 @@ slot_jobs = record {
   effect_word = λ effect. slot_of effect / BANK_SIZE;
   operation_of = operation_of;
   Due = Due;
-  sharing = preferring;
+  sharing = plain;
+  clock = Counted;
   Shows = Shows;
 }
 

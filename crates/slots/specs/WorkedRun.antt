@@ -6,19 +6,18 @@ use Rattle.slots.specs.declared.job.Job.{Job}
 use Rattle.slots.specs.declared.job.Job.TheVariants.{Take, TakeBoth}
 
 -- actor 0 takes a slot while actor 1 is to take one of each bank. Actor 1 is denied the lower bank
--- twice, since actor 0 is preferred and then since actor 0 holds it, and begins anew each time.
+-- four times, since actor 0 holds it, and begins anew each time.
 abbrev pub two_at_once : List (Move Job)
 two_at_once =
     Assigns 0 1 Take ∷ Assigns 1 2 TakeBoth ∷
-    -- both request the lower bank, and actor 0 is preferred
-    Steps 0 ∷ Steps 1 ∷ Steps 0 ∷ Steps 1 ∷
-    -- actor 0 sees the word change once more, and seizes the bank; actor 1 finds it held
-    Steps 0 ∷ Steps 0 ∷ Steps 1 ∷
-    -- actor 0 tests, takes its turn; actor 1 withdraws; actor 0 marks slot 0 and frees the bank
-    Steps 0 ∷ Steps 0 ∷ Steps 1 ∷ Steps 0 ∷ Steps 0 ∷
-    -- actor 1 takes one slot of each bank
-    Steps 1 ∷ Steps 1 ∷ Steps 1 ∷ Steps 1 ∷ Steps 1 ∷ Steps 1 ∷ Steps 1 ∷ Steps 1 ∷ Steps 1
-    ∷ Steps 1 ∷ Steps 1 ∷ []
+    -- actor 0 seizes the lower bank, which actor 1 then finds held
+    Steps 0 ∷ Steps 1 ∷
+    -- actor 0 tests, takes its turn and marks slot 0; after each of these actor 1 tries again
+    Steps 0 ∷ Steps 1 ∷ Steps 0 ∷ Steps 1 ∷ Steps 0 ∷ Steps 1 ∷
+    -- actor 0 frees the bank
+    Steps 0 ∷
+    -- actor 1 seizes and tests each bank, takes its turn, marks a slot of each bank and frees both
+    Steps 1 ∷ Steps 1 ∷ Steps 1 ∷ Steps 1 ∷ Steps 1 ∷ Steps 1 ∷ Steps 1 ∷ Steps 1 ∷ Steps 1 ∷ []
 
 -- the world after this run
 abbrev pub worked : World slots

@@ -1,6 +1,6 @@
 //! Laws: lemmas about the slots. The functions do nothing; their contracts are the statements.
 
-ghost use Rattle.std.specs.Prelude.{◌≡◌, ◌≤◌, ◌<◌, ◌+◌, ◌/◌, ◌%◌, ◌==◌, ◌++◌, ℕ, List, [], ◌∷◌, length, slice_index};
+ghost use Rattle.std.specs.Prelude.{◌≡◌, ◌≤◌, ◌<◌, ◌+◌, ◌/◌, ◌%◌, ◌^◌, ◌==◌, ◌++◌, ℕ, List, [], ◌∷◌, length, slice_index};
 ghost use Rattle.std.specs.Int.{bit_at};
 ghost use mathlib.Core.Option.{some};
 ghost use lib.ListN.{get_elem?};
@@ -31,10 +31,11 @@ impl Family for Slots {
     ghost system = { λ setting. slots };
 }
 
-/// Whatever up to 48 actors do, and in whatever order they make their steps, each job acts as if
-/// done whole at its turn.
+/// Whatever any number of actors do, and in whatever order they make their steps, each job acts as
+/// if done whole at its turn.
 pub fn every_run_of_slots_is_lawful()
-    ensures { (count : ℕ) (moves : List (Move Job)) → count ≤ 48 → AreMoves slots moves →
+    ensures { (count : ℕ) (moves : List (Move Job)) → count < 2 ^ 32 →
+        AreMoves slots moves →
         Lawful slots (run_of slots count moves) }
 {
     laws::every_run_is_lawful::<Slots>();

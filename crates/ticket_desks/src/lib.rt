@@ -6,7 +6,7 @@ ghost use Rattle.std.specs.Prelude.{◌≡◌, ◌<◌, ◌+◌, ◌^◌, IfSome
 use attempts::{Scripts, Seen};
 use desk_attempts::{Attempts, Groups, InGroups, OnGroups};
 use tickets::{Decision, Effect, Job};
-use turns::{Operation, Wanted};
+use turns::{Clock, LockSharing, Operation, Wanted};
 
 /// The jobs' scripts, as walks.
 pub struct TicketScripts;
@@ -17,6 +17,7 @@ pub type TicketJobs = Attempts<InGroups<TicketScripts>, 1, 1>;
 
 impl Scripts<1, 1> for TicketScripts {
     ghost use Rattle.attempts.specs.SystemWith.{without_decisions};
+    ghost use Rattle.turns.specs.declared.lock_sharing.LockSharing.TheVariants.{Preferring};
     ghost use Rattle.tickets.specs.System.{effects_of, reply_of, tickets_over};
 
     type Setting = ();
@@ -33,13 +34,18 @@ impl Scripts<1, 1> for TicketScripts {
 
     type ResumePoint = ();
 
-    ghost system = { λ _. without_decisions tickets_over };
+    ghost system = { λ _. without_decisions Preferring tickets_over };
 
     ghost reply_of = { reply_of };
 
     ghost effects_of = { effects_of };
 
     ghost IsSetting = { λ _. Unit {0} };
+
+    // change: as in the system (`plain` is `LockSharing::Plain`, here and in `system`)
+    fn sharing(_setting: &()) -> LockSharing {
+        LockSharing::Preferring
+    }
 
     // change: the lock that a job seizes first
     fn first(_job: &Job) -> u32 {
@@ -82,6 +88,7 @@ impl Scripts<1, 1> for TicketScripts {
 
 // change: the groups of the words, and what an effect does to which word
 impl OnGroups<1, 1> for TicketScripts {
+    ghost use Rattle.std.specs.Prelude.{refl};
     ghost use Rattle.tickets.proofs.IsSystem.{asks, tickets_system};
 
     type Kept = ();
@@ -90,8 +97,15 @@ impl OnGroups<1, 1> for TicketScripts {
 
     fn keep(_setting: &()) {}
 
+    ghost groups_of = { λ _. record { count = 1; each = 1 } };
+
     fn groups(_setting: &()) -> Groups {
         Groups { count: 1, each: 1 }
+    }
+
+    // change: as in the system
+    fn clock(_setting: &()) -> Clock {
+        Clock::Counted
     }
 
     fn effect_word(_setting: &(), _effect: Effect) -> usize {
@@ -107,5 +121,12 @@ impl OnGroups<1, 1> for TicketScripts {
       is_system = tickets_system;
       asks = λ job right. asks job;
       stays_valid = λ _ _ _ _ _ _. tt;
+    } };
+
+    ghost are_laid_out = { λ _. record {
+      size = refl;
+      initial = refl;
+      lock_word = λ lock. refl;
+      turn_word = refl;
     } };
 }

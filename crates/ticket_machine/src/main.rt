@@ -6,7 +6,7 @@ use desks::Room;
 use std::io;
 use ticket_desks::TicketJobs;
 use tickets::Job;
-use workers::{Yielding, do_all, shut_if_idle};
+use workers::{Pausing, do_all, shut_if_idle};
 
 // change: how many desks there are, and how many jobs each does
 const DESKS: u32 = 4;
@@ -18,7 +18,7 @@ fn main(rt: HostRuntime) -> io::Result<()> {
     let (room, desks) = Room::<TicketJobs>::open(alloc, &(), DESKS)?;
     // change: the next job of a desk that has done so many
     let next = |_desk, done| (done < JOBS).then_some(Job::Take);
-    let shifts = do_all(&rt, alloc, &room, &(), desks, &next, &Yielding)?;
+    let shifts = do_all(&rt, alloc, &room, &(), desks, &next, &Pausing::SHORT)?;
     // change: what is printed of the logs, and of the words that are left
     for shift in shifts.as_slice() {
         println!(rt; "a desk took {} numbers", shift.log.len())?;

@@ -3,6 +3,7 @@ use Rattle.turns.specs.Layouts.{JobsOver, Layout, laid_out, one_each}
 use Rattle.turns.specs.Script.{Script, Ends, ◌>>=◌, ◌>>◌, seize, test}
 use Rattle.turns.specs.Sharings.{preferring}
 use Rattle.turns.specs.System.{System, SystemOver, Whole, system_of}
+use Rattle.turns.specs.declared.clock.Clock.TheVariants.{Counted}
 use Rattle.turns.specs.declared.operation.Operation.TheVariants.{Add}
 use Rattle.tickets.specs.declared.jobs.Decision.{Decision}
 use Rattle.tickets.specs.declared.jobs.Decision.TheVariants.{Takes, Tells}
@@ -56,7 +57,10 @@ tickets_jobs = record {
   effect_word = λ effect. 0;
   operation_of = λ effect. Add 1;
   Due = λ effect value. ⊤;
+  -- change: how actors share locks; `plain` is faster, `preferring` shows requests
   sharing = preferring;
+  -- change: `Ghost` if no job needs a number among all jobs; that is faster where jobs are apart
+  clock = Counted;
   Shows = Shows;
 }
 

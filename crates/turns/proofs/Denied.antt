@@ -58,6 +58,22 @@ module _ (O : System) where
       not_so : {A : Type 0} (other : Answer) → GoesOn other → other ≡ answer → A
       not_so other goes same = absurd (comes.stops (subst GoesOn same goes))
 
+      put_off_asking : (asks : Bool)
+          → (if asks then unless_denied (Asked (with_request sharing k found))
+          (sharing.judged k (with_request sharing k found))
+          else unless_denied Seized (sharing.judged k found)) ≡ answer
+          → sharing.judged k (if asks then with_request sharing k found else found) ≡ judged
+      put_off_asking true same =
+          let word = with_request sharing k found in
+          comes.tells (Asked word) (sharing.judged k word) tt same
+      put_off_asking false same = comes.tells Seized (sharing.judged k found) tt same
+
+      -- a seize that finds another word than expected leaves it
+      left_so : (asks : Bool) (taken : ℕ) (b : Bool) → b ≡ false
+          → (if asks then (if b then taken else found) else found) ≡ found
+      left_so true taken b other = ap (λ (c : Bool). if c then taken else found) other
+      left_so false taken b other = refl
+
       put_off_taking : (lock : Lock) (expected : ℕ) (b : Bool) → (found == expected) ≡ b
           → (if b then Seized else unless_denied (Again found) (sharing.judged k found)) ≡ answer
           → IsDeniedBy O k (Seize lock expected) found judged
@@ -66,16 +82,14 @@ module _ (O : System) where
         lock = lock;
         asks = inr (expected, refl, eqb-false found expected at);
         says =
-            ap (λ (b : Bool). sharing.judged k (if b then sharing.taken k expected else found)) at ∙
+            ap (sharing.judged k) (left_so sharing.asks (sharing.taken k expected) (found == expected) at) ∙
             comes.tells (Again found) (sharing.judged k found) tt same;
       }
 
       put_off_by : (step : Act Lock Effect) → answer_to O k step found ≡ answer
           → IsDeniedBy O k step found judged
       put_off_by (Request lock) same =
-          let word = with_request sharing k found in
-          let says = comes.tells (Asked word) (sharing.judged k word) tt same in
-          record { lock = lock; asks = inl refl; says = says }
+          record { lock = lock; asks = inl refl; says = put_off_asking sharing.asks same }
       put_off_by (Seize lock expected) same =
           put_off_taking lock expected (found == expected) refl same
       put_off_by Finished same = not_so Done tt same

@@ -3,6 +3,7 @@ use Rattle.std.specs.Prelude.{Option}
 use mathlib.Core.Option.{some}
 use lib.ListN.{get_elem?}
 use Rattle.turns.specs.System.{System, effect_on, IsSystem, AreWords, IsUnder, AreUnder}
+use Rattle.turns.specs.Clock.{IsCount}
 use Rattle.turns.specs.Attempt.{AttemptOf, IsValid}
 use Rattle.turns.specs.World.{World, ActorOf, Idle, Does, effects_left_of, value_after, completed, completed_word}
 use Rattle.turns.specs.Law.{IsOperating, IsSound, Lawful, holder_at, word_at}
@@ -143,7 +144,7 @@ module _ (O : System) (system : IsSystem O) (w : World O) (law : Lawful O w) (k 
       few = subst (λ (l : ℕ). l ≤ O.sharing.most) (sym (length-set w.actors k (Does number new))) law.few;
       size = long;
       are_words = are_words;
-      turn = else_same O.turn_word (λ e. no_turn O system p under.lock under.protects (sym e)) ∙ law.turn;
+      turn = subst (λ (n : ℕ). IsCount O.clock n (length w.order)) (sym (else_same O.turn_word (λ e. no_turn O system p under.lock under.protects (sym e)))) law.turn;
       legal = law.legal;
       shows = system.looks (completed O w) (completed O then) _ (alike O system w then law.size long (λ n lock e. word_same n (one_or_two p n))) law.shows;
       sound = all_sound O w k (Does number old) there other w.order number new own others;

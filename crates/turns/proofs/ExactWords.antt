@@ -7,7 +7,7 @@ use Rattle.turns.specs.Seen.{Seen, AreReadWords}
 use Rattle.turns.specs.Script.{Script, Ends, TestThen, SeizeThen, is_held, value_read, left, left_of_test, left_of_seizing, first_wanted, walk}
 use Rattle.turns.specs.Sharing.{with_request}
 use Rattle.turns.specs.System.{System}
-use Rattle.turns.specs.Attempt.{AttemptOf, IsAnswerTo, IsValidIn, act_in, answer_to, changed, closing_act, walk_result, free_act, giving_back, goes_on, operated, read_in, rest_of, unless_denied}
+use Rattle.turns.specs.Attempt.{AttemptOf, IsAnswer, IsAnswerTo, IsValidIn, act_in, answer_to, changed, closing_act, denied, forgotten, walk_result, free_act, giving_back, goes_on, operated, read_in, rest_of, unless_denied}
 use Rattle.turns.specs.declared.act.Act.{Act}
 use Rattle.turns.specs.declared.act.Act.TheVariants as act_is
 use Rattle.turns.specs.World.{becomes, place}
@@ -60,10 +60,13 @@ module _ (O : System) where
   open O use {Lock, Effect, Decision, IsLock, sharing}
 
   -- an answer is of the step's kind, and a value that was tested fits a word
-  told_asked : (lock : Lock) (word : ℕ) (j : Judgement) → IsAnswerTo {Effect = Effect} (act_is.Request lock) (unless_denied (Asked word) j)
-  told_asked lock word judgement.Free = tt
-  told_asked lock word (judgement.Held holder) = tt
-  told_asked lock word (judgement.Preferred other) = tt
+  told_asked : (lock : Lock) (found word : ℕ) (asks : Bool) (j here : Judgement) → sharing.asks ≡ asks → IsAnswer O (act_is.Request lock) (if asks then unless_denied (Asked word) j else unless_denied Seized here)
+  told_asked lock found word true judgement.Free here e = e
+  told_asked lock found word true (judgement.Held holder) here e = tt
+  told_asked lock found word true (judgement.Preferred other) here e = tt
+  told_asked lock found word false j judgement.Free e = e
+  told_asked lock found word false j (judgement.Held holder) e = tt
+  told_asked lock found word false j (judgement.Preferred other) e = tt
 
   told_taken : (lock : Lock) (expected word : ℕ) (b : Bool) (j : Judgement) → IsAnswerTo {Effect = Effect} (act_is.Seize lock expected) (if b then Seized else unless_denied (Again word) j)
   told_taken lock expected word true j = tt
@@ -71,9 +74,9 @@ module _ (O : System) where
   told_taken lock expected word false (judgement.Held holder) = tt
   told_taken lock expected word false (judgement.Preferred other) = tt
 
-  pub answers_fit : (k : ℕ) (step : Act Lock Effect) (found : ℕ) → step ≢ act_is.Finished → found < 2 ^ 64 → IsAnswerTo step (answer_to O k step found)
+  pub answers_fit : (k : ℕ) (step : Act Lock Effect) (found : ℕ) → step ≢ act_is.Finished → found < 2 ^ 64 → IsAnswer O step (answer_to O k step found)
   answers_fit k act_is.Finished found acts below = absurd (acts refl)
-  answers_fit k (act_is.Request lock) found acts below = told_asked lock (with_request sharing k found) (sharing.judged k (with_request sharing k found))
+  answers_fit k (act_is.Request lock) found acts below = told_asked lock found (with_request sharing k found) sharing.asks (sharing.judged k (with_request sharing k found)) (sharing.judged k found) refl
   answers_fit k (act_is.Seize lock expected) found acts below = told_taken lock expected found (found == expected) (sharing.judged k found)
   answers_fit k (act_is.Withdraw lock) found acts below = tt
   answers_fit k (act_is.Free lock) found acts below = tt
@@ -120,10 +123,17 @@ module _ (O : System) where
     abbrev pub words_after : Act Lock Effect → List ℕ
     words_after step = slice_set words (place O step) (becomes O k step (found_by step))
 
-    exact_asked : (lock : Lock) (word : ℕ) (j : Judgement) (after : List ℕ) → word_at O after lock ≡ word → IsExact after (changed O a (Requests lock) (unless_denied (Asked word) j)).phase
-    exact_asked lock word judgement.Free after e = e
-    exact_asked lock word (judgement.Held holder) after e = tt
-    exact_asked lock word (judgement.Preferred other) after e = tt
+    exact_denied : (asks : Bool) (lock : Lock) (after : List ℕ) → IsExact after (if asks then denied a lock else giving_back O (forgotten a) a.held).phase
+    exact_denied true lock after = tt
+    exact_denied false lock after = exact_freed after (forgotten a) a.held
+
+    exact_asked : (asks : Bool) (lock : Lock) (word : ℕ) (j here : Judgement) (after : List ℕ) → word_at O after lock ≡ word → IsExact after (changed O a (Requests lock) (if asks then unless_denied (Asked word) j else unless_denied Seized here)).phase
+    exact_asked true lock word judgement.Free here after e = e
+    exact_asked true lock word (judgement.Held holder) here after e = exact_denied sharing.asks lock after
+    exact_asked true lock word (judgement.Preferred other) here after e = exact_denied sharing.asks lock after
+    exact_asked false lock word j judgement.Free after e = let b : AttemptOf O = record a { held = a.held ++ lock ∷ [] } in exact_on after b (walk_result O b)
+    exact_asked false lock word j (judgement.Held holder) after e = exact_denied sharing.asks lock after
+    exact_asked false lock word j (judgement.Preferred other) after e = exact_denied sharing.asks lock after
 
     exact_again : (lock : Lock) (expected word : ℕ) (j : Judgement) (after : List ℕ) → word_at O after lock ≡ word → IsExact after (changed O a (SeizesNext lock expected) (unless_denied (Again word) j)).phase
     exact_again lock expected word judgement.Free after e = e
@@ -139,7 +149,7 @@ module _ (O : System) where
         IsExact (words_after (act_in phase a)) (changed O a phase (answer_to O k (act_in phase a) (found_by (act_in phase a)))).phase
     exact_after (Requests lock) at valid read there =
         let v = with_request sharing k (word_at O words lock) in
-        exact_asked lock v (sharing.judged k v) (slice_set words (O.lock_word lock) v) (index_same words (O.lock_word lock) v (there lock read valid))
+        exact_asked sharing.asks lock v (sharing.judged k v) (sharing.judged k (word_at O words lock)) (slice_set words (O.lock_word lock) v) (index_same words (O.lock_word lock) v (there lock read valid))
     exact_after (SeizesNext lock expected) at valid read there =
         let found = word_at O words lock in
         exact_taken lock expected found (sharing.taken k expected) (found == expected) (sharing.judged k found) (there lock read valid)

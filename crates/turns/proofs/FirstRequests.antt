@@ -1,7 +1,10 @@
 -- the first of the requests in a lock's word
-use Rattle.std.proofs.Common.{◌≡◌, ℕ, zero, suc, ◌+◌, ◌<◌, ◌≤◌, Bool, true, false, sym, refl, ◌∙◌, ap, arith}
+use Rattle.std.proofs.Common.{◌≡◌, ℕ, zero, suc, ◌+◌, ◌-◌, ◌*◌, ◌^◌, ◌<◌, ◌≤◌, Bool, true, false, bit_and, pow_mono, mod-eq_of_lt, inl, inr, sym, refl, ◌∙◌, ap, arith}
+use Rattle.std.proofs.lemmas.Bool.{cases_lt}
+use Rattle.std.proofs.lemmas.Nat.{and_le_l}
+use Rattle.std.proofs.lemmas.Nat.Bits.{bit_at_and, bit_at-lt, bit_at-zero, bit_at-trailing_zeros, bit_at_mask_above, bit_at_mask_below, bit_at_mask_inside}
 use Rattle.std.specs.Prelude.{◌==◌, ◌%◌, Option, Some, None, if◌then◌else◌}
-use Rattle.std.specs.Int.{bit_at}
+use Rattle.std.specs.Int.{bit_at, trailing_zeros, w64}
 use Rattle.turns.specs.Sharing.{IsTrueOf}
 use Rattle.turns.specs.Sharings.{first_request, lower_request, by_request, by_holder, judged, preferring}
 use Rattle.turns.specs.declared.judgement.Judgement.TheVariants.{Free}
@@ -54,6 +57,60 @@ unfolding lower_request
 lower_found k word other below one none =
     let same : 0 + other ≡ other = omega arith in
     one_found word 0 k other below (ap (valid word) same ∙ one) (λ i from until. none i (omega arith)) ∙ ap Some same
+
+-- the requests of the actors below this one, as a mask leaves them
+abbrev pub masked : ℕ → ℕ → ℕ
+masked k word = bit_and word (2 ^ (8 + k) - 2 ^ 8)
+
+-- the bit above them fits a word
+pub shifted : (k : ℕ) → k < 48 → 1 * 2 ^ (8 + k) % 2 ^ 64 ≡ 2 ^ (8 + k)
+shifted k few = let high = pow_mono {i = 8 + k} {j = 55} (omega arith) in let one : 1 * 2 ^ (8 + k) ≡ 2 ^ (8 + k) = omega arith in ap (λ (n : ℕ). n % 2 ^ 64) one ∙ mod-eq_of_lt (omega (arith, high))
+
+pub shifted_from : (k : ℕ) → k < 48 → 256 ≤ 1 * 2 ^ (8 + k) % 2 ^ 64
+shifted_from k few = let low = pow_mono {i = 8} {j = 8 + k} (omega arith) in omega (arith, shifted k few, low)
+
+-- a bit that the mask leaves is a request of one of them
+masked_from : (k word i : ℕ) → bit_at (masked k word) i ≡ 1 → 8 ≤ i
+masked_from k word i set = elim (cases_lt i 8) [
+  | inl below ↦ let none = bit_at_mask_below 8 (8 + k) i below in let both = bit_at_and word (2 ^ (8 + k) - 2 ^ 8) i in absurd (omega (arith, set, none, both))
+  | inr from ↦ from
+]
+
+masked_until : (k word i : ℕ) → bit_at (masked k word) i ≡ 1 → i < 8 + k
+masked_until k word i set = elim (cases_lt i (8 + k)) [
+  | inl below ↦ below
+  | inr from ↦ let none = bit_at_mask_above 8 (8 + k) i from in let both = bit_at_and word (2 ^ (8 + k) - 2 ^ 8) i in absurd (omega (arith, set, none, both))
+]
+
+masked_is : (k word i : ℕ) → i < k → bit_at (masked k word) (8 + i) ≡ bit_at word (8 + i)
+masked_is k word i below =
+    let inside = bit_at_mask_inside 8 (8 + k) (8 + i) (omega arith) (omega arith) in
+    let both = bit_at_and word (2 ^ (8 + k) - 2 ^ 8) (8 + i) in
+    omega (arith, inside, both, bit_at-lt word (8 + i))
+
+masked_fits : (k word : ℕ) → word < 2 ^ 64 → masked k word < 2 ^ 64
+masked_fits k word fits = omega (arith, and_le_l word (2 ^ (8 + k) - 2 ^ 8), fits)
+
+-- nothing is left: nobody below requests the lock
+pub masked_none : (k word : ℕ) → masked k word ≡ 0 → lower_request k word ≡ None
+masked_none k word none = lower_none k word (λ i below.
+    let zero_bit : bit_at word (8 + i) ≡ 0 = sym (masked_is k word i below) ∙ ap (λ (n : ℕ). bit_at n (8 + i)) none ∙ bit_at-zero (8 + i) in
+    ap (λ (n : ℕ). n == 1) zero_bit)
+
+-- otherwise its lowest bit is the request of the lowest that does
+pub masked_first : (k word : ℕ) → word < 2 ^ 64 → 0 < masked k word → (8 ≤ trailing_zeros w64 (masked k word)) × (lower_request k word ≡ Some (trailing_zeros w64 (masked k word) - 8))
+masked_first k word fits some =
+    let low = masked k word in
+    let first = bit_at-trailing_zeros w64 low some (masked_fits k word fits) in
+    let t = trailing_zeros w64 low in
+    let from = masked_from k word t first.1 in
+    let until = masked_until k word t first.1 in
+    let at : 8 + (t - 8) ≡ t = omega (arith, from) in (
+      from,
+      lower_found k word (t - 8) (omega (arith, from, until))
+          (ap (λ (n : ℕ). n == 1) (sym (masked_is k word (t - 8) (omega (arith, from, until))) ∙ ap (bit_at low) at ∙ first.1))
+          (λ i below. ap (λ (n : ℕ). n == 1) (sym (masked_is k word i (omega (arith, below, until))) ∙ first.2 (8 + i) (omega (arith, below, from)))),
+    )
 
 -- the judgement of a lock's word is true
 true_by_request : (k word : ℕ) (found : Option ℕ) → word % 64 ≡ 0 → IsFound word 0 k found → IsTrueOf preferring k word (by_request found)

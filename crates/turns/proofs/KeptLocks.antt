@@ -1,8 +1,9 @@
 -- an attempt frees locks in giving back or once its effects are made, and keeps them until then
-use Rattle.std.proofs.Common.{◌≡◌, ◌≢◌, ◌⊎◌, ℕ, List, [], ◌∷◌, ◌++◌, inl, inr, refl, sym, ap, subst}
+use Rattle.std.proofs.Common.{◌≡◌, ◌≢◌, ◌⊎◌, ℕ, Bool, true, false, List, [], ◌∷◌, ◌++◌, inl, inr, refl, sym, ap, subst}
+use Rattle.std.specs.Prelude.{if◌then◌else◌}
 use Rattle.turns.specs.Among.{IsIn}
 use Rattle.turns.specs.System.{System}
-use Rattle.turns.specs.Attempt.{AttemptOf, act, act_in, change, changed, closing_act, free_act, giving_back, operated, rest_of, walks_on}
+use Rattle.turns.specs.Attempt.{AttemptOf, act, act_in, change, changed, closing_act, denied, forgotten, free_act, giving_back, operated, rest_of, walks_on}
 use Rattle.turns.specs.declared.act.Act.TheVariants.{Free}
 use Rattle.turns.specs.declared.answer.Answer.{Answer}
 use Rattle.turns.specs.declared.answer.Answer.TheVariants.{Asked, Seized, Held, Preferred, Again, Value, Turn, Done}
@@ -52,12 +53,22 @@ module _ (O : System) where
   kept_on : (a : AttemptOf O) (lock : Lock) → IsIn lock a.held → IsIn lock (walks_on O a).held
   kept_on a lock within = subst (IsIn lock) (sym (walks_held O a)) within
 
+  kept_denied : (asks : Bool) (a : AttemptOf O) (asked lock : Lock) → IsIn lock a.held
+      → IsIn lock (if asks then denied a asked else giving_back O (forgotten a) a.held).held
+  kept_denied true a asked lock within = within
+  kept_denied false a asked lock within = kept_back (forgotten a) lock a.held within
+
   -- whatever the answer in whatever phase
   kept_in : (a : AttemptOf O) (phase : Phase Lock ℕ) (answer : Answer) (lock : Lock)
       → IsIn lock a.held → act_in phase a ≢ Free lock → IsIn lock (changed O a phase answer).held
   kept_in a (Requests asked) (Asked word) lock within other = within
-  kept_in a (Requests asked) (Held holder) lock within other = within
-  kept_in a (Requests asked) (Preferred actor) lock within other = within
+  kept_in a (Requests asked) Seized lock within other =
+      let more = in_front lock a.held (asked ∷ []) within in
+      kept_on (record a { held = a.held ++ asked ∷ [] }) lock more
+  kept_in a (Requests asked) (Held holder) lock within other =
+      kept_denied O.sharing.asks a asked lock within
+  kept_in a (Requests asked) (Preferred actor) lock within other =
+      kept_denied O.sharing.asks a asked lock within
   kept_in a (Seizes asked expected) Seized lock within other =
       let more = in_front lock a.held (asked ∷ []) within in
       kept_on (record a { held = a.held ++ asked ∷ [] }) lock more

@@ -1,5 +1,5 @@
 -- an actor that is left alone: each of its steps is steady, and it ends its job
-use Rattle.std.proofs.Common.{◌≡◌, ◌≢◌, ℕ, zero, suc, ◌<◌, ◌⊎◌, Bool, true, List, slice_index, inl, inr, refl, sym, ◌∙◌, ap, subst, arith}
+use Rattle.std.proofs.Common.{◌≡◌, ◌≢◌, ℕ, zero, suc, ◌<◌, ◌⊎◌, Bool, true, false, List, slice_index, inl, inr, refl, sym, ◌∙◌, ap, subst, arith}
 use Rattle.std.specs.Prelude.{Some, None, Err, if◌then◌else◌}
 use Rattle.std.proofs.lemmas.Bool.{eq-eqb}
 use mathlib.Core.Bool.{true≢false}
@@ -77,12 +77,12 @@ module _ (O : System) (is : IsSystem O) where
         at (suc j) e = absurd (true≢false (sym (held_of O.same a.held lock (λ l. (is.same l l).1 refl) (named_mine lock j right e)) ∙ wanted_bare O.same (seen_of a) lock (O.script a.job) wants))
 
       -- so it may go on, when it requests or when its request is pending
-      free_asked : sharing.judged k (with_request sharing k (word_at O w.words lock)) ≡ judgement.Free
-      free_asked =
+      free_asked : sharing.asks ≡ true → sharing.judged k (with_request sharing k (word_at O w.words lock)) ≡ judgement.Free
+      free_asked asks =
           let shared = law.shared lock right in
           let word = word_at O w.words lock in
-          is.sharing.alone_free k (with_request sharing k word) few (is.sharing.asked_is k word few shared.is_word) (is.sharing.asked_holder k word few shared.is_word ∙ nobody)
-          (λ j below e. elim (is.sharing.asked_requests k word few shared.is_word j below e) [ inl one ↦ one | inr stood ↦ asked_mine lock j right below stood ])
+          is.sharing.alone_free k (with_request sharing k word) few (is.sharing.asked_is k word asks few shared.is_word) (is.sharing.asked_holder k word asks few shared.is_word ∙ nobody)
+          (λ j below e. elim (is.sharing.asked_requests k word asks few shared.is_word j below e) [ inl one ↦ one | inr stood ↦ asked_mine lock j right below stood ])
 
       pub free_again : sharing.judged k (word_at O w.words lock) ≡ judgement.Free
       free_again = is.sharing.alone_free k (word_at O w.words lock) few (law.shared lock right).is_word nobody (λ j below e. asked_mine lock j right below e)
@@ -96,7 +96,13 @@ module _ (O : System) (is : IsSystem O) where
     answer_in phase = answer_to O k (act_in phase a) (slice_index w.words (place O (act_in phase a)))
 
     steady_in : (phase : Phase Lock ℕ) → IsValidIn O a phase → AreReadWords (read_in phase a.readings) → IsExact O w.words phase → IsSteady (answer_in phase)
-    steady_in (Requests lock) valid read exact = subst (λ (j : Judgement). IsSteady (unless_denied (Asked (with_request sharing k (word_at O w.words lock))) j)) (sym (free_asked read lock valid)) tt
+    steady_in (Requests lock) valid read exact = steady_request sharing.asks refl where
+      word : ℕ
+      word = word_at O w.words lock
+
+      steady_request : (asks : Bool) → sharing.asks ≡ asks → IsSteady (if asks then unless_denied (Asked (with_request sharing k word)) (sharing.judged k (with_request sharing k word)) else unless_denied Seized (sharing.judged k word))
+      steady_request true e = subst (λ (j : Judgement). IsSteady (unless_denied (Asked (with_request sharing k word)) j)) (sym (free_asked read lock valid e)) tt
+      steady_request false e = subst (λ (j : Judgement). IsSteady (unless_denied Seized j)) (sym (free_again read lock valid)) tt
     steady_in (SeizesNext lock expected) valid read exact =
         subst (λ (b : Bool). IsSteady (if b then Seized else unless_denied (Again (word_at O w.words lock)) (sharing.judged k (word_at O w.words lock)))) (sym (eq-eqb (word_at O w.words lock) expected exact)) tt
     steady_in (TestsNext word) valid read exact = tt

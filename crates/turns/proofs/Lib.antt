@@ -7,6 +7,7 @@ pub mod Keeping
 pub mod Standing
 pub mod Completed
 pub mod Orders
+pub mod TurnCounts
 pub mod Sound
 pub mod Settings
 pub mod Quiet

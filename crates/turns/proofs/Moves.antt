@@ -1,4 +1,4 @@
-use Rattle.std.proofs.Common.{◌≡◌, ℕ, Bool, true, false, List, [], ◌∷◌, ◌++◌, slice_index, slice_set, sym, refl, ap, inl, inr, ◌∙◌, subst, append-nil}
+use Rattle.std.proofs.Common.{◌≡◌, ◌≢◌, ℕ, ◌<◌, Bool, true, false, List, [], ◌∷◌, ◌++◌, slice_index, slice_set, sym, refl, ap, inl, inr, ◌∙◌, subst, append-nil}
 use Rattle.std.specs.Prelude.{Option, Some, None, ◌==◌, if◌then◌else◌}
 use Rattle.std.proofs.lemmas.Bool.{eqb-true}
 use mathlib.Core.Option.{some}
@@ -6,9 +6,10 @@ use lib.ListN.{get_elem?}
 use Rattle.turns.specs.Among.{IsIn}
 use Rattle.turns.specs.Sharing.{IsTrueOf, ShowsRequests, with_request, without_holder as freed_word, without_request}
 use Rattle.turns.specs.System.{System, IsSystem}
-use Rattle.turns.specs.Attempt.{AttemptOf, IsValid, change, changed, giving_back, forgotten, effects_left_in, denied, request_in, restarted, unless_denied, walks_on}
+use Rattle.turns.specs.Attempt.{AttemptOf, IsValid, change, changed, giving_back, forgotten, effects_left_in, denied, denied_request, request_in, restarted, unless_denied, walks_on}
 use Rattle.turns.specs.World.{World, ActorOf, RecordOf, Does, effects_left_of, moved}
 use Rattle.turns.specs.Law.{HasRequested, IsRead, IsSound, Lawful, word_at}
+use Rattle.turns.specs.declared.answer.Answer.{Answer}
 use Rattle.turns.specs.declared.answer.Answer.TheVariants.{Asked, Seized, Again, Done}
 use Rattle.turns.specs.declared.judgement.Judgement.{Judgement}
 use Rattle.turns.specs.declared.judgement.Judgement.TheVariants.{Free, Held, Preferred}
@@ -33,11 +34,15 @@ attempt O phase job readings held reply effects = record { job = job; readings =
 module _ (O : System) where
   open O use {Lock, sharing}
 
-  -- an answer to a request, and to the seizing of a lock whose word was another
-  asked_on : (a : AttemptOf O) (lock : Lock) (word : ℕ) (j : Judgement) → on_judgement O a lock word j ≡ changed O a (Requests lock) (unless_denied (Asked word) j)
-  asked_on a lock word Free = refl
-  asked_on a lock word (Held other) = refl
-  asked_on a lock word (Preferred other) = refl
+  -- an answer to a request that is a step of its own, and to the seizing of a lock whose word was
+  -- another
+  denied_on : (a : AttemptOf O) (lock : Lock) → sharing.asks ≡ true → denied a lock ≡ denied_request O a lock
+  denied_on a lock asks = ap (λ (b : Bool). if b then denied a lock else giving_back O (forgotten a) a.held) (sym asks)
+
+  asked_on : (a : AttemptOf O) (lock : Lock) (word : ℕ) (j : Judgement) → sharing.asks ≡ true → on_judgement O a lock word j ≡ changed O a (Requests lock) (unless_denied (Asked word) j)
+  asked_on a lock word Free asks = refl
+  asked_on a lock word (Held other) asks = denied_on a lock asks
+  asked_on a lock word (Preferred other) asks = denied_on a lock asks
 
   again_on : (a : AttemptOf O) (lock : Lock) (expected word : ℕ) (j : Judgement) → on_judgement O a lock word j ≡ changed O a (Seizes lock expected) (unless_denied (Again word) j)
   again_on a lock expected word Free = refl
@@ -79,24 +84,67 @@ module _ (O : System) (system : IsSystem O) (w : World O) (law : Lawful O w) (k 
 
   module _ (job : Job) (readings : List (Reading ℕ)) (held : List Lock) (reply : Option Reply) (effects : List Effect) where
     -- it requests a lock
-    requests_in : (lock : Lock) → get_elem? w.actors k ≡ some (Does number (attempt O (Requests lock) job readings held reply effects)) → Lawful O (moved O k number (attempt O (Requests lock) job readings held reply effects) w)
-    requests_in lock there =
-        let a = attempt O (Requests lock) job readings held reply effects in
-        let s = law.sound k number a there in
-        let found = word_at O w.words lock in
-        let few = few_actors O w law k (Does number a) there in
-        let word = (law.shared lock s.fits).is_word in
-        let v = with_request sharing k found in
-        let j = sharing.judged k v in
-        let is_word = system.sharing.asked_is k found few word in
-        let valid : ShowsRequests sharing → sharing.requests k v ≡ true = λ shows. shows.asked_own k found few word in
-        same_order _ _ (subst (λ (new : AttemptOf O). Lawful O (renewed O w (slice_set w.words (lock_word lock) v) w.order k number new)) (asked_on O a lock v j)
-        (stays O system w law k number a there lock s.fits v (on_judgement O a lock v j)
-        (system.sharing.asked_holder k found few word) (judged_held O a lock v j) (judged_left O a lock v j)
-        (λ now. judged_sound O _ k number a lock v j (has_sound O _ k number a now) now.read s.valid s.fits is_word valid refl)
-        is_word (record { made = λ e. judged_request O a lock v j; shown = λ shows e. valid shows })
-        (added_others O k found v (system.sharing.asked_requests k found few word) (λ shows. shows.asked_others k found few word))
-        (λ other e. absurd cc) (λ other e. let x : Some lock ≡ Some other = sym (judged_request O a lock v j) ∙ e in cc)))
+    module _ (lock : Lock) (there : get_elem? w.actors k ≡ some (Does number (attempt O (Requests lock) job readings held reply effects))) where
+      abbrev asking : AttemptOf O
+      asking = attempt O (Requests lock) job readings held reply effects
+
+      abbrev word : ℕ
+      word = word_at O w.words lock
+
+      abbrev left_word : ℕ
+      left_word = with_request sharing k word
+
+      -- the world once the lock's word is this one and the attempt has changed by this answer
+      abbrev answered : ℕ → Answer → World O
+      answered v answer = renewed O w (slice_set w.words (lock_word lock) v) w.order k number (changed O asking (Requests lock) answer)
+
+      s : IsSound O w k number asking
+      s = law.sound k number asking there
+
+      few : k < sharing.most
+      few = few_actors O w law k (Does number asking) there
+
+      is_word : sharing.IsWord word
+      is_word = (law.shared lock s.fits).is_word
+
+      -- by a step of its own
+      asks_first : sharing.asks ≡ true → Lawful O (answered left_word (unless_denied (Asked left_word) (sharing.judged k left_word)))
+      asks_first asks =
+          let v = left_word in
+          let j = sharing.judged k v in
+          let now_word = system.sharing.asked_is k word asks few is_word in
+          let valid : ShowsRequests sharing → sharing.requests k v ≡ true = λ shows. shows.asked_own k word few is_word in
+          subst (λ (new : AttemptOf O). Lawful O (renewed O w (slice_set w.words (lock_word lock) v) w.order k number new)) (asked_on O asking lock v j asks)
+          (stays O system w law k number asking there lock s.fits v (on_judgement O asking lock v j)
+          (system.sharing.asked_holder k word asks few is_word) (judged_held O asking lock v j) (judged_left O asking lock v j)
+          (λ now. judged_sound O _ k number asking lock v j (has_sound O _ k number asking now) now.read s.valid s.fits now_word valid refl)
+          now_word (record { made = λ e. judged_request O asking lock v j; shown = λ shows e. valid shows })
+          (added_others O k word v (system.sharing.asked_requests k word asks few is_word) (λ shows. shows.asked_others k word few is_word))
+          (λ other e. absurd cc) (λ other e. let x : Some lock ≡ Some other = sym (judged_request O asking lock v j) ∙ e in cc))
+
+      -- by one that seizes the lock at once if it may, and is denied it otherwise
+      denied_at_once : sharing.asks ≡ false → sharing.judged k word ≢ Free → Lawful O (renewed O w (slice_set w.words (lock_word lock) left_word) w.order k number (denied_request O asking lock))
+      denied_at_once once denied_so =
+          let given = giving_back O (forgotten asking) held in
+          subst (λ (v : ℕ). Lawful O (renewed O w (slice_set w.words (lock_word lock) v) w.order k number (denied_request O asking lock))) (sym (system.sharing.left_at_once k word once few is_word denied_so))
+          (idle_word (lock_word lock) (denied_request O asking lock)
+          (subst (λ (b : Bool). Lawful O (renewed O w w.words w.order k number (if b then denied asking lock else given))) (sym once)
+          (rests asking there given (freed_left O (forgotten asking) held) (freed_held O (forgotten asking) held) (freed_request O (forgotten asking) held) (freed_sound O system w k number (forgotten asking) held (has asking there)))))
+
+      seizes_at_once : sharing.asks ≡ false → (j : Judgement) → sharing.judged k word ≡ j → Lawful O (answered left_word (unless_denied Seized j))
+      seizes_at_once once Free free =
+          let bare : sharing.holder word ≡ 0 = subst (IsTrueOf sharing k word) free (system.sharing.judged_true k word few is_word) in
+          subst (λ (v : ℕ). Lawful O (answered v Seized)) (sym (system.sharing.seized_at_once k word once few is_word free))
+          (takes O system w law k number asking there lock s.fits (sharing.taken k word) bare (system.sharing.taken_is k word few is_word bare) (system.sharing.taken_holder k word few is_word bare) (system.sharing.taken_requests k word few is_word bare) (λ shows. shows.taken_others k word few is_word bare) s.read refl (λ other same. absurd cc))
+      seizes_at_once once (Held other) judged = denied_at_once once (λ free. let x : Free ≡ Held other = sym free ∙ judged in cc)
+      seizes_at_once once (Preferred other) judged = denied_at_once once (λ free. let x : Free ≡ Preferred other = sym free ∙ judged in cc)
+
+      requests_by : (asks : Bool) → sharing.asks ≡ asks → Lawful O (answered left_word (if asks then unless_denied (Asked left_word) (sharing.judged k left_word) else unless_denied Seized (sharing.judged k word)))
+      requests_by true e = asks_first e
+      requests_by false e = seizes_at_once e (sharing.judged k word) refl
+
+      requests_in : Lawful O (moved O k number asking w)
+      requests_in = same_order _ _ (requests_by sharing.asks refl)
 
     -- it withdraws its request
     withdraws_in : (lock : Lock) → get_elem? w.actors k ≡ some (Does number (attempt O (Withdraws lock) job readings held reply effects)) → Lawful O (moved O k number (attempt O (Withdraws lock) job readings held reply effects) w)

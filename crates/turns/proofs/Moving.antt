@@ -12,6 +12,7 @@ use Rattle.turns.specs.declared.phase.Phase.{Phase}
 use Rattle.turns.specs.declared.phase.Phase.TheVariants.{Requests, Seizes, Tests, Turns, Withdraws, GivesBack, Operates}
 use Rattle.turns.specs.declared.reading.Reading.{Reading}
 use Rattle.turns.proofs.Completed.{all_spare, completed_index, completed_length}
+use Rattle.turns.proofs.TurnCounts.{count_none}
 use Rattle.turns.proofs.Sound.{begin_sound}
 use Rattle.turns.proofs.Settings.{held_of, request_of}
 use Rattle.turns.proofs.Quiet.{still}
@@ -70,7 +71,7 @@ module _ (O : System) where
       few = subst (λ (l : ℕ). l ≤ sharing.most) (sym (length-replicate count Idle)) few;
       size = system.opens.initial_length;
       are_words = system.opens.are_words;
-      turn = system.opens.no_turn;
+      turn = count_none O.clock (slice_index O.initial O.turn_word) system.opens.no_turn;
       legal = tt;
       shows = system.looks O.initial (completed O (fresh_world O count)) O.opening (record {
         this_length = system.opens.initial_length;

@@ -1,6 +1,7 @@
-use Rattle.std.proofs.Common.{◌≡◌, ℕ, zero, suc, ◌+◌, ◌%◌, ◌^◌, List, [], ◌∷◌, ◌++◌, length, refl, ap, ◌∙◌, arith}
+use Rattle.std.proofs.Common.{◌≡◌, ℕ, zero, suc, ◌+◌, ◌%◌, ◌^◌, List, [], ◌∷◌, ◌++◌, length, refl, ap, ◌∙◌, subst, arith}
 use Rattle.std.specs.Prelude.{Some, slice_get, take}
 use Rattle.std.proofs.Math.Nat.{mod-add-mod}
+use Rattle.turns.specs.Clock.{IsCount}
 use Rattle.turns.specs.System.{System}
 use Rattle.turns.specs.World.{RecordOf, after}
 use Rattle.turns.specs.Law.{IsLegal}
@@ -42,8 +43,8 @@ module _ (O : System) where
   after_more state (x ∷ order) r = after_more (whole state x.job).state order r
 
   -- a legal order goes on by a record with the next turn, and the reply of its job done whole
-  pub legal_more : (i : ℕ) (state : State) (order : List (RecordOf O)) (r : RecordOf O) → IsLegal O i state order → O.IsJob r.job → r.turn ≡ (i + length order) % 2 ^ 64 → r.reply ≡ (whole (after O state order) r.job).reply → IsLegal O i state (order ++ r ∷ [])
-  legal_more i state [] r legal given turn reply = let e : i + zero ≡ i = omega arith in (given, turn ∙ ap (λ (m : ℕ). m % 2 ^ 64) e, reply, tt)
+  pub legal_more : (i : ℕ) (state : State) (order : List (RecordOf O)) (r : RecordOf O) → IsLegal O i state order → O.IsJob r.job → IsCount O.clock r.turn (i + length order) → r.reply ≡ (whole (after O state order) r.job).reply → IsLegal O i state (order ++ r ∷ [])
+  legal_more i state [] r legal given turn reply = let e : i + zero ≡ i = omega arith in (given, subst (λ (m : ℕ). IsCount O.clock r.turn m) e turn, reply, tt)
   legal_more i state (x ∷ order) r legal given turn reply =
       let e : i + suc (length order) ≡ suc i + length order = omega arith in
-      (legal.0, legal.1, legal.2, legal_more (suc i) (whole state x.job).state order r legal.3 given (turn ∙ ap (λ (m : ℕ). m % 2 ^ 64) e) reply)
+      (legal.0, legal.1, legal.2, legal_more (suc i) (whole state x.job).state order r legal.3 given (subst (λ (m : ℕ). IsCount O.clock r.turn m) e turn) reply)

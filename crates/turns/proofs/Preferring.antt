@@ -8,9 +8,11 @@ use Rattle.turns.proofs.FirstRequests.{judged_true, alone_free}
 
 pub preferring_is : IsSharing preferring
 preferring_is = record {
-  asked_is = λ k word few is. asked_is k word few is;
-  asked_holder = λ k word few is. asked_holder k word;
-  asked_requests = λ k word few is. asked_requests k word;
+  asked_is = λ k word asks few is. asked_is k word few is;
+  asked_holder = λ k word asks few is. asked_holder k word;
+  asked_requests = λ k word asks few is. asked_requests k word;
+  seized_at_once = λ k word once few is free. absurd cc;
+  left_at_once = λ k word once few is denied. absurd cc;
   withdrawn_is = λ k word few is. without_is k word few is;
   withdrawn_holder = λ k word few is. without_holder k word few;
   withdrawn_requests = λ k word few is. without_requests k word few;

@@ -3,6 +3,7 @@ use Rattle.std.specs.Prelude.{Some}
 use mathlib.Core.Option.{some}
 use lib.ListN.{get_elem?}
 use Rattle.turns.specs.Among.{IsIn}
+use Rattle.turns.specs.Clock.{IsCount}
 use Rattle.turns.specs.System.{System, IsSystem, AreAlike, AreWords}
 use Rattle.turns.specs.Attempt.{AttemptOf, request_in}
 use Rattle.turns.specs.World.{World, ActorOf, Does, effects_left_of, value_after, completed, completed_word}
@@ -45,7 +46,7 @@ module _ (O : System) where
       few = subst (λ (l : ℕ). l ≤ sharing.most) (sym (length-set w.actors k (Does number new))) law.few;
       size = quiet.long ∙ law.size;
       are_words = are;
-      turn = quiet.turns ∙ law.turn;
+      turn = subst (λ (n : ℕ). IsCount O.clock n (length w.order)) (sym quiet.turns) law.turn;
       legal = law.legal;
       shows = system.looks (completed O w) (completed O (renewed O w other w.order k number new)) _ (alike system w (renewed O w other w.order k number new) law.size (quiet.long ∙ law.size) (λ n lock e.
           ap (completed_word O w.actors n) (sym (quiet.under n lock e)) ∙

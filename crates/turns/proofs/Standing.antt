@@ -1,9 +1,9 @@
 use Rattle.std.proofs.Common.{◌≡◌, List, [], ◌∷◌, ◌++◌, refl, ◌∙◌, ap, append_assoc, subst, sym}
-use Rattle.std.specs.Prelude.{ℕ, Bool, Result, Ok, Err}
+use Rattle.std.specs.Prelude.{ℕ, Bool, true, false, Result, Ok, Err, if◌then◌else◌}
 use Rattle.turns.specs.Seen.{AreReadWords}
 use Rattle.turns.specs.Script.{Script, Ends, TestThen, SeizeThen, is_held, value_read, left, left_of_test, left_of_seizing, first_wanted, walk}
 use Rattle.turns.specs.System.{System, IsSystem, DecidesUnder}
-use Rattle.turns.specs.Attempt.{AttemptOf, IsValid, IsValidIn, HasTurned, begin, change, changed, walk_result, giving_back, goes_on, operated, restarted, restarted_in, read_in, rest_of, seen_of, forgotten}
+use Rattle.turns.specs.Attempt.{AttemptOf, IsValid, IsValidIn, HasTurned, begin, change, changed, walk_result, giving_back, goes_on, operated, restarted, restarted_in, read_in, rest_of, seen_of, denied, forgotten}
 use Rattle.turns.specs.declared.answer.Answer.{Answer}
 use Rattle.turns.specs.declared.answer.Answer.TheVariants.{Asked, Seized, Held, Preferred, Again, Value, Turn as TurnNumber, Done}
 use Rattle.turns.specs.declared.phase.Phase.{Phase}
@@ -54,10 +54,16 @@ module _ (O : System) (is : IsSystem O) where
     effects = turned.effects ∙ ap (λ (l : List Effect). turned.made ++ l) left ∙ sym (append_assoc turned.made (effect ∷ []) effects);
   })
 
+  -- a denied request
+  stands_denied : (asks : Bool) (a : AttemptOf O) (lock : Lock) → O.IsJob a.job → IsLock lock → IsValid O (if asks then denied a lock else giving_back O (forgotten a) a.held)
+  stands_denied true a lock right there = there
+  stands_denied false a lock right there = stands_freed (forgotten a) a.held right
+
   changes_in : (a : AttemptOf O) (phase : Phase Lock ℕ) (answer : Answer) → O.IsJob a.job → AreReadWords (read_in phase a.readings) → a.phase ≡ phase → IsValid O a → IsValidIn O a phase → IsValid O (changed O a phase answer)
   changes_in a (Requests lock) (Asked word) right read at all valid = valid
-  changes_in a (Requests lock) (Held holder) right read at all valid = wanted_lock a lock right read valid
-  changes_in a (Requests lock) (Preferred other) right read at all valid = wanted_lock a lock right read valid
+  changes_in a (Requests lock) Seized right read at all valid = stands_on (record a { held = a.held ++ lock ∷ [] }) (walk_result O (record a { held = a.held ++ lock ∷ [] })) refl
+  changes_in a (Requests lock) (Held holder) right read at all valid = stands_denied O.sharing.asks a lock right (wanted_lock a lock right read valid)
+  changes_in a (Requests lock) (Preferred other) right read at all valid = stands_denied O.sharing.asks a lock right (wanted_lock a lock right read valid)
   changes_in a (SeizesNext lock expected) Seized right read at all valid = stands_on (record a { held = a.held ++ lock ∷ [] }) (walk_result O (record a { held = a.held ++ lock ∷ [] })) refl
   changes_in a (SeizesNext lock expected) (Held holder) right read at all valid = wanted_lock a lock right read valid
   changes_in a (SeizesNext lock expected) (Preferred other) right read at all valid = wanted_lock a lock right read valid

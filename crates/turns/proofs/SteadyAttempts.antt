@@ -1,10 +1,10 @@
 -- how many steps an attempt takes that is never denied a lock
 use Rattle.std.proofs.Common.{◌≡◌, ℕ, suc, ◌+◌, ◌-◌, ◌*◌, ◌<◌, ◌≤◌, ◌^◌, Bool, true, false, List, [], ◌∷◌, ◌++◌, length, length-append, refl, sym, ap, subst, arith}
-use Rattle.std.specs.Prelude.{Option, Some, None, Result, Ok, Err}
+use Rattle.std.specs.Prelude.{Option, Some, None, Result, Ok, Err, if◌then◌else◌}
 use Rattle.turns.specs.Seen.{Seen, AreReadWords}
 use Rattle.turns.specs.Script.{Script, Ends, TestThen, SeizeThen, AsksAtMost, is_held, value_read, left, left_of_test, left_of_seizing, first_wanted, walk}
 use Rattle.turns.specs.System.{System, IsSystem, AreWords}
-use Rattle.turns.specs.Attempt.{AttemptOf, IsAnswerTo, IsValid, IsValidIn, act, act_in, begin, change, changed, closing_act, walk_result, free_act, giving_back, goes_on, effects_left_in, operated, read_in, rest_of, seen_of}
+use Rattle.turns.specs.Attempt.{AttemptOf, IsAnswer, IsValid, IsValidIn, act, act_in, begin, change, changed, closing_act, denied, forgotten, walk_result, free_act, giving_back, goes_on, effects_left_in, operated, read_in, rest_of, seen_of}
 use Rattle.turns.specs.World.{World}
 use Rattle.turns.specs.Law.{FitsIn, IsSound}
 use Rattle.turns.specs.Bounds.{AreBounded, AreSteady, AllEndsHave, IsSteady}
@@ -46,15 +46,15 @@ module _ {Lock A : Type 0} (same : Lock → Lock → Bool) (Has : A → Type 0) 
   walk_ends script found has e = first_end (left same seen script) found (left_ends script has) e
 
 -- past the turn, and in giving back, a step has no other answer than that it is done
-free_done : {Lock : Type 0} (Effect : Type 0) (held : List Lock) (answer : Answer) → IsAnswerTo (free_act {Effect = Effect} held) answer → answer ≡ Done
-free_done Effect [] answer fits = absurd fits
-free_done Effect (lock ∷ held) Done fits = refl
-free_done Effect (lock ∷ held) answer fits = absurd fits
+free_done : (O : System) (held : List O.Lock) (answer : Answer) → IsAnswer O (free_act held) answer → answer ≡ Done
+free_done O [] answer fits = absurd fits
+free_done O (lock ∷ held) Done fits = refl
+free_done O (lock ∷ held) answer fits = absurd fits
 
-closing_done : {Lock Effect : Type 0} (effects : List Effect) (held : List Lock) (answer : Answer) → IsAnswerTo (closing_act effects held) answer → answer ≡ Done
-closing_done {Effect = Effect} [] held answer fits = free_done Effect held answer fits
-closing_done (effect ∷ effects) held Done fits = refl
-closing_done (effect ∷ effects) held answer fits = absurd fits
+closing_done : (O : System) (effects : List O.Effect) (held : List O.Lock) (answer : Answer) → IsAnswer O (closing_act effects held) answer → answer ≡ Done
+closing_done O [] held answer fits = free_done O held answer fits
+closing_done O (effect ∷ effects) held Done fits = refl
+closing_done O (effect ∷ effects) held answer fits = absurd fits
 
 module _ (O : System) where
   freed_job : (a : AttemptOf O) (held : List O.Lock) → (giving_back O a held).job ≡ a.job
@@ -70,11 +70,16 @@ module _ (O : System) where
   operated_job a [] = refl
   operated_job a (effect ∷ effects) = refl
 
+  denied_job : (asks : Bool) (a : AttemptOf O) (lock : O.Lock) → (if asks then denied a lock else giving_back O (forgotten a) a.held).job ≡ a.job
+  denied_job true a lock = refl
+  denied_job false a lock = freed_job (forgotten a) a.held
+
   -- an attempt's job stays
   changed_job : (a : AttemptOf O) (phase : Phase O.Lock ℕ) (answer : Answer) → (changed O a phase answer).job ≡ a.job
   changed_job a (Requests lock) (Asked word) = refl
-  changed_job a (Requests lock) (Held holder) = refl
-  changed_job a (Requests lock) (Preferred other) = refl
+  changed_job a (Requests lock) Seized = let b : AttemptOf O = record a { held = a.held ++ lock ∷ [] } in goes_on_job b (walk_result O b)
+  changed_job a (Requests lock) (Held holder) = denied_job O.sharing.asks a lock
+  changed_job a (Requests lock) (Preferred other) = denied_job O.sharing.asks a lock
   changed_job a (SeizesNext lock expected) Seized = let b : AttemptOf O = record a { held = a.held ++ lock ∷ [] } in goes_on_job b (walk_result O b)
   changed_job a (SeizesNext lock expected) (Held holder) = refl
   changed_job a (SeizesNext lock expected) (Preferred other) = refl
@@ -182,7 +187,7 @@ module _ (O : System) (is : IsSystem O) (tests seizings effects : ℕ) (bounded 
     pub one : enough ≡ suc less
     pub within : IsWithin less a
 
-  made_operated : (enough turn : ℕ) (a : AttemptOf O) (left : List Effect) (held : List Lock) → a.phase ≡ Operates turn → a.effects ≡ left → a.held ≡ held → length left + length held ≤ enough → IsAnswerTo (closing_act left held) Done → HasMadeOne enough (operated a left)
+  made_operated : (enough turn : ℕ) (a : AttemptOf O) (left : List Effect) (held : List Lock) → a.phase ≡ Operates turn → a.effects ≡ left → a.held ≡ held → length left + length held ≤ enough → IsAnswer O (closing_act left held) Done → HasMadeOne enough (operated a left)
   made_operated enough turn a [] [] at these those fits answer = absurd answer
   made_operated enough turn a [] (lock ∷ held) at these those fits answer =
       let none : length a.effects ≡ 0 = ap (length {A = Effect}) these in
@@ -192,17 +197,21 @@ module _ (O : System) (is : IsSystem O) (tests seizings effects : ℕ) (bounded 
       let all : length a.held ≡ length held = ap (length {A = Lock}) those in
       record { less = enough - 1; one = omega arith; within = subst (WithinIn (enough - 1) (operated a (effect ∷ left))) (sym at) (omega (arith, all)) }
 
-  made_given : (enough : ℕ) (a : AttemptOf O) (held : List Lock) → a.held ≡ held → O.IsJob a.job → length held + whole_job ≤ enough → IsAnswerTo (free_act {Effect = Effect} held) Done → HasMadeOne enough (giving_back O a (rest_of held))
+  made_given : (enough : ℕ) (a : AttemptOf O) (held : List Lock) → a.held ≡ held → O.IsJob a.job → length held + whole_job ≤ enough → IsAnswer O (free_act held) Done → HasMadeOne enough (giving_back O a (rest_of held))
   made_given enough a [] those right fits answer = absurd answer
   made_given enough a (lock ∷ held) those right fits answer = record { less = enough - 1; one = omega arith; within = within_freed (enough - 1) a held right (omega arith) }
 
   -- a steady answer to an attempt's step leaves one step less
-  pub made_in : (enough : ℕ) (a : AttemptOf O) (phase : Phase Lock ℕ) (answer : Answer) → O.IsJob a.job → a.phase ≡ phase → IsValidIn O a phase → WithinIn enough a phase → IsAnswerTo (act_in phase a) answer → IsSteady answer → HasMadeOne enough (changed O a phase answer)
+  pub made_in : (enough : ℕ) (a : AttemptOf O) (phase : Phase Lock ℕ) (answer : Answer) → O.IsJob a.job → a.phase ≡ phase → IsValidIn O a phase → WithinIn enough a phase → IsAnswer O (act_in phase a) answer → IsSteady answer → HasMadeOne enough (changed O a phase answer)
   made_in enough a (Requests lock) (Asked word) right at valid room fits steady = record {
     less = enough - 1;
     one = omega (arith, room.fits);
     within = record { more_tests = room.more_tests; more_seizings = room.more_seizings; read = room.read; asks = room.asks; fits = omega (arith, room.fits) };
   }
+  made_in enough a (Requests lock) Seized right at valid room fits steady =
+      let b : AttemptOf O = record a { held = a.held ++ lock ∷ [] } in
+      let after = room_seized (enough - 1) a lock valid (room_more enough (suc (suc (enough - 1))) a (omega arith) room) in
+      record { less = enough - 1; one = omega (arith, room.fits); within = within_on (enough - 1) b (walk_result O b) right refl after }
   made_in enough a (Requests lock) (Held holder) right at valid room fits steady = absurd steady
   made_in enough a (Requests lock) (Preferred other) right at valid room fits steady = absurd steady
   made_in enough a (Requests lock) answer right at valid room fits steady = absurd fits
@@ -225,11 +234,11 @@ module _ (O : System) (is : IsSystem O) (tests seizings effects : ℕ) (bounded 
   made_in enough a (Withdraws lock) Done right at valid room fits steady = record { less = enough - 1; one = omega arith; within = within_freed (enough - 1) a a.held right (omega arith) }
   made_in enough a (Withdraws lock) answer right at valid room fits steady = absurd fits
   made_in enough a GivesBack Done right at valid room fits steady = made_given enough a a.held refl right room fits
-  made_in enough a GivesBack answer right at valid room fits steady = let done : answer ≡ Done = free_done Effect a.held answer fits in absurd cc
+  made_in enough a GivesBack answer right at valid room fits steady = let done : answer ≡ Done = free_done O a.held answer fits in absurd cc
   made_in enough a (Operates turn) Done right at valid room fits steady = made_operated enough turn a a.effects a.held at refl refl room fits
-  made_in enough a (Operates turn) answer right at valid room fits steady = let done : answer ≡ Done = closing_done a.effects a.held answer fits in absurd cc
+  made_in enough a (Operates turn) answer right at valid room fits steady = let done : answer ≡ Done = closing_done O a.effects a.held answer fits in absurd cc
 
-  pub made_one : (enough : ℕ) (a : AttemptOf O) (answer : Answer) → O.IsJob a.job → IsValid O a → IsWithin enough a → IsAnswerTo (act a) answer → IsSteady answer → HasMadeOne enough (change O a answer)
+  pub made_one : (enough : ℕ) (a : AttemptOf O) (answer : Answer) → O.IsJob a.job → IsValid O a → IsWithin enough a → IsAnswer O (act a) answer → IsSteady answer → HasMadeOne enough (change O a answer)
   made_one enough a answer right valid within fits steady = made_in enough a a.phase answer right refl valid within fits steady
 
   -- what it has read fits its words

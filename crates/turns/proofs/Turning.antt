@@ -1,10 +1,11 @@
-use Rattle.std.proofs.Common.{◌≡◌, ◌≢◌, ℕ, ◌+◌, ◌%◌, ◌^◌, ◌<◌, ◌≤◌, ◌⊎◌, List, [], ◌∷◌, ◌++◌, length, set, slice_index, slice_set, sym, refl, ap, inl, inr, ◌∙◌, subst, length-set, zero-add, arith}
-use Rattle.std.proofs.Math.Nat.{mod-lt}
+use Rattle.std.proofs.Common.{◌≡◌, ◌≢◌, ℕ, ◌+◌, ◌<◌, ◌≤◌, ◌⊎◌, List, [], ◌∷◌, ◌++◌, length, set, slice_index, slice_set, sym, refl, ap, inl, inr, ◌∙◌, subst, length-set, zero-add}
 use Rattle.std.proofs.Math.Seq.{take-append_seam}
 use Rattle.std.specs.Prelude.{Option, Some, None}
 use mathlib.Core.Option.{some}
 use lib.ListN.{get_elem?}
 use Rattle.turns.specs.Among.{IsIn}
+use Rattle.turns.specs.Clock.{turning, IsCount}
+use Rattle.turns.specs.Operations.{applied}
 use Rattle.turns.specs.Script.{run}
 use Rattle.turns.specs.Seen.{AreReadFrom}
 use Rattle.turns.specs.System.{System, IsSystem, AreWords, IsUnder, AreUnder, MayMake, AreAlike, DecidesAs, perform_all, AreDue}
@@ -17,9 +18,10 @@ use Rattle.turns.specs.declared.reading.Reading.{Reading}
 use Rattle.turns.proofs.Lists.{set_here, index_same, index_other}
 use Rattle.turns.proofs.Walks.{walk_run}
 use Rattle.turns.proofs.Completed.{Spares, touch_or_spare, perform_length, perform_index, completed_length, completed_index, due_along, only_one, same_done}
-use Rattle.turns.proofs.Orders.{turn_more, length_more, get_last, get_before, after_more, legal_more}
+use Rattle.turns.proofs.Orders.{length_more, get_last, get_before, after_more, legal_more}
+use Rattle.turns.proofs.TurnCounts.{count_more, turning_fits}
 use Rattle.turns.proofs.Standing.{stands_change}
-use Rattle.turns.proofs.Words.{AllFit, completed_below, set_below}
+use Rattle.turns.proofs.Words.{AllFit, applied_below, completed_below, set_below}
 use Rattle.turns.proofs.Sound.{are_read, left_fit, sound_along}
 use Rattle.turns.proofs.Settings.{all_sound, renewed, shared_on}
 use Rattle.turns.proofs.Quiet.{few_actors}
@@ -42,6 +44,10 @@ module _ (O : System) (system : IsSystem O) (w : World O) (law : Lawful O w) (k 
 
     abbrev new : AttemptOf O
     new = operating O system w law k number job readings held found reply effects
+
+    -- the number that it leaves in the turn word
+    abbrev left : ℕ
+    left = applied (turning O.clock) found
 
     abbrev words : List ℕ
     words = completed O w
@@ -86,10 +92,10 @@ module _ (O : System) (system : IsSystem O) (w : World O) (law : Lawful O w) (k 
     decides = subst (DecidesAs O words (whole state job)) run_is (system.decides job words state sound.job words_long words_are law.shows)
 
     abbrev other : List ℕ
-    other = slice_set w.words O.turn_word ((found + 1) % 2 ^ 64)
+    other = slice_set w.words O.turn_word left
 
     else_same : (n : ℕ) → n ≢ O.turn_word → slice_index other n ≡ slice_index w.words n
-    else_same n apart = index_other w.words O.turn_word n ((found + 1) % 2 ^ 64) apart
+    else_same n apart = index_other w.words O.turn_word n left apart
 
     lock_words : (lock : Lock) → IsLock lock → word_at O other lock ≡ word_at O w.words lock
     lock_words lock is = else_same (lock_word lock) (system.words.turn_apart lock is)
@@ -110,7 +116,7 @@ module _ (O : System) (system : IsSystem O) (w : World O) (law : Lawful O w) (k 
     then order = renewed O w other order k number new
 
     other_long : length other ≡ O.size
-    other_long = length-set w.words O.turn_word ((found + 1) % 2 ^ 64) ∙ law.size
+    other_long = length-set w.words O.turn_word left ∙ law.size
 
     alike_then : (order : List (RecordOf O)) → AreAlike O (perform_all O words effects) (completed O (then order))
     alike_then order = record {
@@ -163,7 +169,7 @@ module _ (O : System) (system : IsSystem O) (w : World O) (law : Lawful O w) (k 
     -- actor k takes its turn, with this record
     turns_by : (r : RecordOf O) → r.turn ≡ found → r.actor ≡ k → r.number ≡ number → r.job ≡ job → reply ≡ Some r.reply → r.reply ≡ reply_of decided.decision → Lawful O (then (w.order ++ r ∷ []))
     turns_by r turn actor numbered is replied says =
-        let at : r.turn ≡ (0 + length w.order) % 2 ^ 64 = turn ∙ law.turn ∙ ap (λ (m : ℕ). m % 2 ^ 64) (sym (zero-add (length w.order))) in
+        let at : IsCount O.clock r.turn (0 + length w.order) = subst (λ (n : ℕ). IsCount O.clock n (0 + length w.order)) (sym turn) (subst (λ (m : ℕ). IsCount O.clock found m) (sym (zero-add (length w.order))) law.turn) in
         let answer : r.reply ≡ (whole state r.job).reply = says ∙ decides.reply ∙ ap (λ (j : Job). (whole state j).reply) (sym is) in
         let last : (whole state job).state ≡ after O O.opening (w.order ++ r ∷ []) = ap (λ (j : Job). (whole state j).state) (sym is) ∙ sym (after_more O O.opening w.order r) in
         let shown : Shows (perform_all O words effects) (whole state job).state = subst (λ (l : List Effect). Shows (perform_all O words l) (whole state job).state) (sym decided.effects) decides.shows in
@@ -171,10 +177,10 @@ module _ (O : System) (system : IsSystem O) (w : World O) (law : Lawful O w) (k 
         record {
           few = subst (λ (l : ℕ). l ≤ O.sharing.most) (sym (length-set w.actors k (Does number new))) law.few;
           size = other_long;
-          are_words = set_below w.words O.turn_word ((found + 1) % 2 ^ 64) law.are_words (mod-lt (found + 1) {m = 2 ^ 64} (omega arith));
-          turn =
-              index_same w.words O.turn_word ((found + 1) % 2 ^ 64) (subst (λ (l : ℕ). O.turn_word < l) (sym law.size) system.words.turn_there) ∙
-              ap (λ (m : ℕ). (m + 1) % 2 ^ 64) law.turn ∙ turn_more (length w.order) ∙ ap (λ (m : ℕ). m % 2 ^ 64) (sym (length_more w.order r));
+          are_words = set_below w.words O.turn_word left law.are_words (applied_below (turning O.clock) found (turning_fits O.clock) (law.are_words O.turn_word));
+          turn = subst (λ (n : ℕ). IsCount O.clock n (length (w.order ++ r ∷ [])))
+              (sym (index_same w.words O.turn_word left (subst (λ (l : ℕ). O.turn_word < l) (sym law.size) system.words.turn_there)))
+              (subst (λ (m : ℕ). IsCount O.clock left m) (sym (length_more w.order r)) (count_more O.clock found (length w.order) law.turn));
           legal = legal_more O 0 O.opening w.order r law.legal (subst O.IsJob (sym is) sound.job) at answer;
           shows = subst (λ (s : State). Shows (completed O (then (w.order ++ r ∷ []))) s) last (system.looks (perform_all O words effects) (completed O (then (w.order ++ r ∷ []))) _ (alike_then (w.order ++ r ∷ [])) shown);
           sound = all_sound O w k (Does number old) there other (w.order ++ r ∷ []) number new (own (w.order ++ r ∷ []) known (was_decided r))

@@ -1,7 +1,7 @@
-use Rattle.std.specs.Prelude.{◌≡◌, ℕ, ◌<◌, ◌^◌, ◌==◌, Option, Some, None, List, [], ◌∷◌, ◌++◌, Result, Ok, Err, ⊤, if◌then◌else◌}
+use Rattle.std.specs.Prelude.{◌≡◌, ℕ, ◌<◌, ◌^◌, ◌==◌, Option, Some, None, List, [], ◌∷◌, ◌++◌, Result, Ok, Err, true, false, ⊤, if◌then◌else◌}
 use Rattle.turns.specs.Seen.{Seen}
 use Rattle.turns.specs.Script.{walk}
-use Rattle.turns.specs.Sharing.{with_request}
+use Rattle.turns.specs.Sharing.{Sharing, with_request}
 use Rattle.turns.specs.System.{System}
 use Rattle.turns.specs.declared.act.Act.{Act}
 use Rattle.turns.specs.declared.act.Act.TheVariants.{Finished, Request, Seize, Withdraw, Free, Test, Turn, Make}
@@ -146,7 +146,7 @@ abbrev pub forgotten : {Lock Job Reply Effect : Type 0} → Attempt Lock Job Rep
     → Attempt Lock Job Reply Effect
 forgotten a = record a { readings = []; reply = None; effects = [] }
 
--- the attempt once it is denied this lock: it withdraws its request next
+-- the attempt once it is denied a lock that it has requested: it withdraws its request next
 abbrev pub denied : {Lock Job Reply Effect : Type 0} → Attempt Lock Job Reply Effect → Lock
     → Attempt Lock Job Reply Effect
 denied a lock = record (forgotten a) { phase = Withdraws lock }
@@ -163,6 +163,19 @@ abbrev pub unless_denied : Answer → Judgement → Answer
 unless_denied answer judgement.Free = answer
 unless_denied answer (judgement.Held holder) = Held holder
 unless_denied answer (judgement.Preferred other) = Preferred other
+
+-- the answer to actor k's request, which found this number in the lock's word
+abbrev pub answer_to_request : Sharing → ℕ → ℕ → Answer
+answer_to_request S k found =
+    if S.asks
+    then unless_denied (Asked (with_request S k found)) (S.judged k (with_request S k found))
+    else unless_denied Seized (S.judged k found)
+
+-- the answer to its step that seizes a lock: it expected one number in the lock's word, and found
+-- the other
+abbrev pub answer_to_seize : Sharing → ℕ → ℕ → ℕ → Answer
+answer_to_seize S k expected found =
+    if found == expected then Seized else unless_denied (Again found) (S.judged k found)
 
 -- the answer is of the step's kind, and the value of a tested word fits 64 bits
 abbrev pub IsAnswerTo : {Lock Effect : Type 0} → Act Lock Effect → Answer → Type 0
@@ -208,11 +221,18 @@ module _ (O : System) where
   giving_back a [] = begin a.job
   giving_back a (lock ∷ held) = record a { held = lock ∷ held; phase = GivesBack }
 
+  -- the attempt once its request is denied: it withdraws that next, if actors ask first, and
+  -- otherwise gives back
+  abbrev pub denied_request : AttemptOf → Lock → AttemptOf
+  denied_request a lock =
+      if sharing.asks then denied a lock else giving_back (forgotten a) a.held
+
   -- the attempt changed by an answer in a phase; an answer of another kind changes nothing
   abbrev pub changed : AttemptOf → Phase Lock ℕ → Answer → AttemptOf
   changed a (Requests lock) (Asked word) = record a { phase = Seizes lock word }
-  changed a (Requests lock) (Held holder) = denied a lock
-  changed a (Requests lock) (Preferred other) = denied a lock
+  changed a (Requests lock) Seized = walks_on (record a { held = a.held ++ lock ∷ [] })
+  changed a (Requests lock) (Held holder) = denied_request a lock
+  changed a (Requests lock) (Preferred other) = denied_request a lock
   changed a (Seizes lock expected) Seized = walks_on (record a { held = a.held ++ lock ∷ [] })
   changed a (Seizes lock expected) (Held holder) = denied a lock
   changed a (Seizes lock expected) (Preferred other) = denied a lock
@@ -232,16 +252,20 @@ module _ (O : System) where
   -- the answer to actor k's step, which found this number in its word
   abbrev pub answer_to : ℕ → Act Lock Effect → ℕ → Answer
   answer_to k Finished found = Done
-  answer_to k (Request lock) found =
-      unless_denied (Asked (with_request sharing k found))
-      (sharing.judged k (with_request sharing k found))
-  answer_to k (Seize lock expected) found =
-      if found == expected then Seized else unless_denied (Again found) (sharing.judged k found)
+  answer_to k (Request lock) found = answer_to_request sharing k found
+  answer_to k (Seize lock expected) found = answer_to_seize sharing k expected found
   answer_to k (Withdraw lock) found = Done
   answer_to k (Free lock) found = Done
   answer_to k (Test word) found = Value found
   answer_to k Turn found = TurnNumber found
   answer_to k (Make effect) found = Done
+
+  -- the answer is of the step's kind; a request is answered that the lock is seized only if it
+  -- seizes at once, and that the request is made only if actors ask first
+  abbrev pub IsAnswer : Act Lock Effect → Answer → Type 0
+  IsAnswer (Request lock) (Asked word) = sharing.asks ≡ true
+  IsAnswer (Request lock) Seized = sharing.asks ≡ false
+  IsAnswer step answer = IsAnswerTo step answer
 
   -- the attempt of actor k after its next step, which found this number
   abbrev pub next : ℕ → AttemptOf → ℕ → AttemptOf

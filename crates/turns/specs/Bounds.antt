@@ -1,7 +1,7 @@
 use Rattle.std.specs.Prelude.{◌≡◌, ℕ, None, zero, suc, ◌<◌, ◌≤◌, ◌^◌, List, [], ◌∷◌, length, ⊤}
 use Rattle.turns.specs.Script.{Script, Ends, TestThen, SeizeThen, AsksAtMost}
 use Rattle.turns.specs.System.{System}
-use Rattle.turns.specs.Attempt.{AttemptOf, IsAnswerTo, act, change, request_in}
+use Rattle.turns.specs.Attempt.{AttemptOf, IsAnswer, act, change, request_in}
 use Rattle.turns.specs.World.{World, ActorOf, Idle, Does}
 use Rattle.turns.specs.Runs.{after_move, Steps}
 use Rattle.turns.specs.declared.answer.Answer.{Answer}
@@ -30,7 +30,7 @@ module _ (O : System) where
   abbrev pub AreSteady : AttemptOf O → List Answer → Type 0
   AreSteady a [] = ⊤
   AreSteady a (answer ∷ answers) =
-      IsAnswerTo (act a) answer × IsSteady answer × AreSteady (change O a answer) answers
+      IsAnswer O (act a) answer × IsSteady answer × AreSteady (change O a answer) answers
 
   -- each job tests at most `tests` words, seizes at most `seizings` locks, and decides on at most
   -- `most_effects` effects

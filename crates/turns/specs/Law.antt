@@ -1,7 +1,8 @@
-use Rattle.std.specs.Prelude.{◌≡◌, ℕ, suc, ◌<◌, ◌≤◌, ◌^◌, ◌%◌, true, Some, List, [], ◌∷◌, ◌++◌, length, take, slice_index, slice_get, ⊤}
+use Rattle.std.specs.Prelude.{◌≡◌, ℕ, suc, ◌<◌, ◌≤◌, true, Some, List, [], ◌∷◌, ◌++◌, length, take, slice_index, slice_get, ⊤}
 use mathlib.Core.Option.{some}
 use lib.ListN.{get_elem?}
 use Rattle.turns.specs.Among.{IsIn, AreDistinct}
+use Rattle.turns.specs.Clock.{IsCount}
 use Rattle.turns.specs.Script.{run}
 use Rattle.turns.specs.Sharing.{ShowsRequests}
 use Rattle.turns.specs.System.{System, IsUnder, AreUnder, AreDue, effect_on, fold_effects, AreWords, FitWords, MayMake}
@@ -37,12 +38,12 @@ module _ (O : System) where
   abbrev pub holder_at : List ℕ → Lock → ℕ
   holder_at words lock = sharing.holder (word_at words lock)
 
-  -- a legal history, from number i and a state on: each record has its number as its turn (modulo
-  -- 2^64), and the reply of its job done whole on the state after those before
+  -- a legal history, from number i and a state on: each record has a number that the clock may
+  -- have after i turns, and the reply of its job done whole on the state after those before
   abbrev pub IsLegal : ℕ → State → List (RecordOf O) → Type 0
   IsLegal i state [] = ⊤
   IsLegal i state (r ∷ order) =
-      IsJob r.job × (r.turn ≡ i % 2 ^ 64) × (r.reply ≡ (whole state r.job).reply)
+      IsJob r.job × IsCount O.clock r.turn i × (r.reply ≡ (whole state r.job).reply)
       × IsLegal (suc i) (whole state r.job).state order
 
   -- the order has a record of actor k's turn, with this number and turn, and the attempt's job and
@@ -156,7 +157,7 @@ module _ (O : System) where
     pub size : length w.words ≡ O.size
     -- each word has 64 bits
     pub are_words : AreWords w.words
-    pub turn : slice_index w.words O.turn_word ≡ length w.order % 2 ^ 64
+    pub turn : IsCount O.clock (slice_index w.words O.turn_word) (length w.order)
     -- the order is legal, and the words show the state after it once all effects left are made
     pub legal : IsLegal 0 O.opening w.order
     pub shows : Shows (completed O w) (after O O.opening w.order)

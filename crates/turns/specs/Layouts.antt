@@ -2,6 +2,7 @@ use Rattle.std.specs.Prelude.{◌≡◌, ℕ, suc, ◌+◌, ◌*◌, ◌/◌, �
 use Rattle.turns.specs.Script.{Script}
 use Rattle.turns.specs.Sharing.{Sharing}
 use Rattle.turns.specs.System.{SystemOver, Whole}
+use Rattle.turns.specs.declared.clock.Clock.{Clock}
 use Rattle.turns.specs.declared.operation.Operation.{Operation}
 
 -- words in groups, each under a lock of its own. The words of all groups come first, then each
@@ -64,6 +65,7 @@ pub record JobsOver (Job Reply Effect : Type 0) : Type 1 where
   pub operation_of : Effect → Operation
   pub Due : Effect → ℕ → Type 0
   pub sharing : Sharing
+  pub clock : Clock
   pub Shows : List ℕ → State → Type 0
 
 -- the system of these jobs on words so laid out
@@ -90,5 +92,6 @@ laid_out L jobs = record {
   lock_word = lock_word_in L;
   sharing = jobs.sharing;
   turn_word = turn_word_in L;
+  clock = jobs.clock;
   Shows = jobs.Shows;
 }

@@ -3,6 +3,7 @@ pub mod Seen
 pub mod Script
 pub mod Operations
 pub mod Sharing
+pub mod Clock
 pub mod System
 pub mod Attempt
 pub mod World

@@ -14,10 +14,13 @@ pub record Sharing : Type 1 where
   pub holder : ℕ → ℕ
   -- whether the word has actor k's request
   pub requests : ℕ → ℕ → Bool
+  -- whether actors ask first: a request is then a step of its own, before the one that seizes the
+  -- lock. Otherwise a request seizes the lock at once if it may, and changes nothing if not.
+  pub asks : Bool
   -- the operations by which actor k requests the lock, and withdraws its request
   pub request : ℕ → Operation
   pub withdrawal : ℕ → Operation
-  -- the word that actor k puts in place of this one to seize the lock
+  -- the word once actor k has seized the lock by this one
   pub taken : ℕ → ℕ → ℕ
   -- the operation by which its holder frees the lock
   pub freeing : Operation
@@ -80,13 +83,19 @@ KeepsOthers S k word after =
 
 -- the rules that a sharing has to keep
 pub record IsSharing (S : Sharing) : Type 0 where
-  -- a request keeps the holder
-  pub asked_is : (k word : ℕ) → k < S.most → S.IsWord word → S.IsWord (with_request S k word)
-  pub asked_holder : (k word : ℕ) → k < S.most → S.IsWord word
+  -- a request that is a step of its own keeps the holder
+  pub asked_is : (k word : ℕ) → S.asks ≡ true → k < S.most → S.IsWord word
+      → S.IsWord (with_request S k word)
+  pub asked_holder : (k word : ℕ) → S.asks ≡ true → k < S.most → S.IsWord word
       → S.holder (with_request S k word) ≡ S.holder word
-  pub asked_requests : (k word : ℕ) → k < S.most → S.IsWord word
+  pub asked_requests : (k word : ℕ) → S.asks ≡ true → k < S.most → S.IsWord word
       → AddsOnly S k word (with_request S k word)
-  -- so does its withdrawal
+  -- a request that seizes at once does so exactly if the actor may, and otherwise changes nothing
+  pub seized_at_once : (k word : ℕ) → S.asks ≡ false → k < S.most → S.IsWord word
+      → S.judged k word ≡ Free → with_request S k word ≡ S.taken k word
+  pub left_at_once : (k word : ℕ) → S.asks ≡ false → k < S.most → S.IsWord word
+      → S.judged k word ≢ Free → with_request S k word ≡ word
+  -- a withdrawal keeps the holder
   pub withdrawn_is : (k word : ℕ) → k < S.most → S.IsWord word → S.IsWord (without_request S k word)
   pub withdrawn_holder : (k word : ℕ) → k < S.most → S.IsWord word
       → S.holder (without_request S k word) ≡ S.holder word

@@ -1,7 +1,9 @@
-use Rattle.std.specs.Prelude.{◌≡◌, ℕ, false, zero, suc, ◌+◌, ◌-◌, ◌<◌, ◌≤◌, ◌^◌, ◌%◌, ◌==◌, ◌⊎◌, Option, Some, None, if◌then◌else◌, bit_and, bit_or}
+use Rattle.std.specs.Prelude.{◌≡◌, ℕ, false, zero, suc, ◌+◌, ◌-◌, ◌<◌, ◌≤◌, ◌^◌, ◌%◌, ◌==◌, ◌⊎◌, true, Option, Some, None, if◌then◌else◌, bit_and, bit_or}
 use Rattle.std.specs.Int.{bit_at}
 use Rattle.turns.specs.Sharing.{Sharing}
-use Rattle.turns.specs.declared.operation.Operation.TheVariants.{Load, Or, And}
+use Rattle.turns.specs.declared.operation.Operation.TheVariants.{Load, Or, And, Store, CompareExchange}
+use Rattle.turns.specs.declared.lock_sharing.LockSharing.{LockSharing}
+use Rattle.turns.specs.declared.lock_sharing.LockSharing.TheVariants.{Preferring, Plain}
 use Rattle.turns.specs.declared.judgement.Judgement.{Judgement}
 use Rattle.turns.specs.declared.judgement.Judgement.TheVariants.{Free, Held, Preferred}
 
@@ -53,6 +55,7 @@ preferring = record {
   IsWord = IsLockWord;
   holder = λ word. word % 64;
   requests = λ k word. bit_at word (8 + k) == 1;
+  asks = true;
   request = λ k. Or (request_bit k);
   withdrawal = λ k. And (2 ^ 64 - 1 - request_bit k);
   taken = seized_by;
@@ -60,17 +63,22 @@ preferring = record {
   judged = judged;
 }
 
--- up to `most` actors, whose requests aren't shown: a lock's word is 0, or one more than the
--- number of the actor that holds it, and a request only looks at the word
-abbrev pub plain : ℕ → Sharing
-plain most = record {
-  most = most;
-  IsWord = λ word. word ≤ most;
-  holder = λ word. word;
+-- up to 2^32 - 1 actors: a lock's word is 0, or one more than the number of the actor that holds
+-- the lock. A request seizes the lock at once by one compare-and-exchange, or changes nothing.
+abbrev pub plain : Sharing
+plain = record {
+  most = 2 ^ 32 - 1;
+  IsWord = λ word. word < 2 ^ 32;
+  holder = λ word. word % 2 ^ 32;
   requests = λ k word. false;
-  request = λ k. Load;
+  asks = false;
+  request = λ k. CompareExchange 0 (1 + k);
   withdrawal = λ k. Load;
   taken = λ k word. 1 + k;
-  freeing = And 0;
-  judged = λ k word. by_holder word None;
+  freeing = Store 0;
+  judged = λ k word. by_holder (word % 2 ^ 32) None;
 }
+
+abbrev pub sharing_of : LockSharing → Sharing
+sharing_of Preferring = preferring
+sharing_of Plain = plain

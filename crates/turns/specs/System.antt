@@ -3,6 +3,7 @@ use Rattle.turns.specs.Among.{IsIn}
 use Rattle.turns.specs.Operations.{applied, FitsWord}
 use Rattle.turns.specs.Script.{Script, Ends, TestThen, SeizeThen, run, first_wanted}
 use Rattle.turns.specs.Sharing.{Sharing, IsSharing, IsUnused}
+use Rattle.turns.specs.declared.clock.Clock.{Clock}
 use Rattle.turns.specs.declared.operation.Operation.{Operation}
 use Rattle.turns.specs.declared.wanted.Wanted.TheVariants.{Seize}
 
@@ -35,12 +36,13 @@ pub record SystemOver (Lock Job Reply Effect : Type 0) : Type 1 where
   pub operation_of : Effect → Operation
   pub Due : Effect → ℕ → Type 0
   -- the words: how many there are, which lock protects a word, each lock's own word and how it is
-  -- shared, and the turn word
+  -- shared, the turn word, and whether it counts the turns
   pub size : ℕ
   pub Protects : Lock → ℕ → Type 0
   pub lock_word : Lock → ℕ
   pub sharing : Sharing
   pub turn_word : ℕ
+  pub clock : Clock
   -- these words show this state
   pub Shows : List ℕ → State → Type 0
 

@@ -1,11 +1,12 @@
 use Rattle.std.specs.Prelude.{ℕ, suc, Option, Some, None, List, [], ◌∷◌, ◌++◌, set, replicate, slice_index, slice_set}
 use Rattle.turns.specs.Operations.{applied}
+use Rattle.turns.specs.Clock.{turning}
 use Rattle.turns.specs.System.{fold_effects, System, effect_on}
 use Rattle.turns.specs.Attempt.{Attempt, AttemptOf, act, next, effects_left_in, begin, restarted}
 use Rattle.turns.specs.declared.act.Act.{Act}
 use Rattle.turns.specs.declared.act.Act.TheVariants.{Finished, Request, Seize, Withdraw, Free, Test, Turn, Make}
 use Rattle.turns.specs.declared.operation.Operation.{Operation}
-use Rattle.turns.specs.declared.operation.Operation.TheVariants.{Load, Add, CompareExchange}
+use Rattle.turns.specs.declared.operation.Operation.TheVariants.{Load, CompareExchange}
 use Rattle.turns.specs.declared.phase.Phase.{Phase}
 use Rattle.turns.specs.declared.phase.Phase.TheVariants.{Requests, Seizes, Tests, Turns, Withdraws, GivesBack, Operates}
 
@@ -57,7 +58,7 @@ module _ (O : System) where
   operation k (Withdraw lock) = sharing.withdrawal k
   operation k (Free lock) = sharing.freeing
   operation k (Test word) = Load
-  operation k Turn = Add 1
+  operation k Turn = turning O.clock
   operation k (Make effect) = O.operation_of effect
 
   -- what actor k's step leaves in a word in which it finds this number

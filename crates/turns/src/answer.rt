@@ -1,9 +1,9 @@
-ghost use Rattle.std.specs.Prelude.{◌≡◌, ◌<◌, ◌==◌, if◌then◌else◌};
-ghost use Rattle.turns.specs.Attempt.{unless_denied as unless_denied_by};
-ghost use Rattle.turns.specs.Sharing.{with_request};
-ghost use Rattle.turns.specs.Sharings.{preferring};
+ghost use Rattle.std.specs.Prelude.{◌≡◌, ◌<◌};
+ghost use Rattle.turns.specs.Attempt.{answer_to_request, answer_to_seize, unless_denied as unless_denied_by};
+ghost use Rattle.turns.specs.Sharings.{sharing_of};
 
 use crate::judgement::Judgement;
+use crate::lock_sharing::LockSharing;
 use crate::lock_word::asked_by;
 
 /// The answer to a step. Whether a request or a seize is denied depends on the lock's own word
@@ -42,28 +42,29 @@ impl Answer {
     }
 
     /// The answer to an actor's request, which found this number in the lock's word.
-    pub fn to_request(actor: u32, found: u64) -> Self
-        requires { actor < 48 }
-        ensures { result ≡ unless_denied_by
-            (Answer.Asked (with_request preferring actor found))
-            (preferring.judged actor (with_request preferring actor found)) }
+    pub fn to_request(sharing: LockSharing, actor: u32, found: u64) -> Self
+        requires { actor < (sharing_of sharing).most }
+        ensures { result ≡ answer_to_request (sharing_of sharing) actor found }
     {
-        let word = asked_by(actor, found);
-        Answer::Asked(word).unless_denied(Judgement::of(actor, word))
+        match sharing {
+            LockSharing::Preferring => {
+                let word = asked_by(actor, found);
+                Answer::Asked(word).unless_denied(Judgement::of(actor, word))
+            }
+            LockSharing::Plain => Answer::Seized.unless_denied(Judgement::plain(found)),
+        }
     }
 
-    /// The answer to an actor's attempt to seize a lock: it expected one number in the lock's
+    /// The answer to an actor's step that seizes a lock: it expected one number in the lock's
     /// word, and found the other.
-    pub fn to_seizing(actor: u32, expected: u64, found: u64) -> Self
-        requires { actor < 48 }
-        ensures { result
-            ≡ (if found == expected then Answer.Seized
-            else unless_denied_by (Answer.Again found) (preferring.judged actor found)) }
+    pub fn to_seize(sharing: LockSharing, actor: u32, expected: u64, found: u64) -> Self
+        requires { actor < (sharing_of sharing).most }
+        ensures { result ≡ answer_to_seize (sharing_of sharing) actor expected found }
     {
         if found == expected {
             Answer::Seized
         } else {
-            Answer::Again(found).unless_denied(Judgement::of(actor, found))
+            Answer::Again(found).unless_denied(sharing.judge(actor, found))
         }
     }
 }

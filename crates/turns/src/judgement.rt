@@ -1,5 +1,5 @@
-ghost use Rattle.std.specs.Prelude.{◌≡◌, ◌<◌, ◌≤◌, ◌^◌, None};
-ghost use Rattle.turns.specs.Sharings.{by_holder, judged, preferring, lower_request as lower_request_of};
+ghost use Rattle.std.specs.Prelude.{◌≡◌, ◌<◌, ◌%◌, ◌^◌, None};
+ghost use Rattle.turns.specs.Sharings.{by_holder, judged, lower_request as lower_request_of};
 
 /// Whether an actor that requests a lock may seize it, by the lock's word.
 #[derive(Clone, Copy, Debug, PartialEq, Eq)]
@@ -12,24 +12,18 @@ pub enum Judgement {
     Preferred(u32),
 }
 
-fn requests(actor: u32, word: u64) -> bool
-    requires { actor < 48 }
-    ensures { result ≡ preferring.requests actor word }
-{
-    word >> (8 + actor) & 1 == 1
-}
-
 /// The lowest actor below this one that has a request in the word.
 fn lower_request(actor: u32, word: u64) -> Option<u32>
     requires { actor < 48 }
     ensures { result ≡ lower_request_of actor word }
 {
-    for other in 0..actor {
-        if requests(other, word) {
-            return Some(other);
-        }
+    // The bits 8 to 8 + actor - 1.
+    let below = word & ((1 << (8 + actor)) - (1 << 8));
+    if below == 0 {
+        None
+    } else {
+        Some(below.trailing_zeros() - 8)
     }
-    None
 }
 
 impl Judgement {
@@ -50,14 +44,14 @@ impl Judgement {
         }
     }
 
-    /// Judges the word of a lock that is shared without requests, for any actor: the word is 0, or
-    /// one more than the number of the holder.
+    /// Judges the word of a lock that is shared without requests, for any actor: its lowest 32
+    /// bits are 0, or one more than the number of the holder.
     pub fn plain(word: u64) -> Self
-        requires { word ≤ 2 ^ 32 }
-        ensures { result ≡ by_holder word None }
+        ensures { result ≡ by_holder (word % 2 ^ 32) None }
     {
-        if word > 0 {
-            Judgement::Held((word - 1) as u32)
+        let holder = (word % (1 << 32)) as u32;
+        if holder > 0 {
+            Judgement::Held(holder - 1)
         } else {
             Judgement::Free
         }

@@ -6,12 +6,13 @@ ghost use Rattle.std.specs.Prelude.{length, slice_get, slice_index};
 ghost use mathlib.Core.Option.{some};
 ghost use lib.ListN.{get_elem?};
 ghost use Rattle.turns.specs.Among.{IsIn};
+ghost use Rattle.turns.specs.Clock.{IsCount};
 ghost use Rattle.turns.specs.Seen.{Seen, AreReadFrom, AreReadWords};
 ghost use Rattle.turns.specs.Script.{run, walk};
 ghost use Rattle.turns.specs.System.{System, IsSystem, IsUnder};
 ghost use Rattle.turns.specs.Attempt.{AttemptOf, act, answer_to, begin, change};
 ghost use Rattle.turns.specs.declared.act.Act.TheVariants.{Free, Make, Finished};
-ghost use Rattle.turns.specs.Attempt.{IsAnswerTo, IsSeizing, IsValid, read_in, restarted};
+ghost use Rattle.turns.specs.Attempt.{IsAnswer, IsSeizing, IsValid, read_in, restarted};
 ghost use Rattle.turns.specs.World.{World, ActorOf, RecordOf, Does, moved, place, added};
 ghost use Rattle.turns.specs.World.{assigned, given_back, fresh_world, completed, after, effects_left_of, value_after};
 ghost use Rattle.turns.specs.Law.{Lawful, IsAvailable, IsLegal, IsRecorded, WasDecided};
@@ -82,13 +83,14 @@ pub fn the_order_only_grows<F: Family>()
 /// jobs before it. The words show the state after all of these jobs, once all effects that turned
 /// jobs have left are made. The words themselves show it if no lock is held, if no actor past its
 /// turn has an effect left to make, or if every actor is available. A word under the locks of one
-/// actor lacks only the effects that this one has left. The turn word counts the order modulo
-/// 2^64, and each word has 64 bits.
+/// actor lacks only the effects that this one has left. With a counted clock the turn word counts
+/// the order modulo 2^64; with a ghost clock it stays 0. Each word has 64 bits.
 pub fn jobs_act_at_their_turns<F: Family>()
     ensures legal { (setting : F.Setting) → let O = F.system setting in
         (w : World O) → Lawful O w → IsLegal O 0 O.opening w.order }
     ensures counted { (setting : F.Setting) → let O = F.system setting in
-        (w : World O) → Lawful O w → slice_index w.words O.turn_word ≡ length w.order % 2 ^ 64 }
+        (w : World O) → Lawful O w
+        → IsCount O.clock (slice_index w.words O.turn_word) (length w.order) }
     ensures words { (setting : F.Setting) → let O = F.system setting in
         (w : World O) (n : ℕ) → Lawful O w → slice_index w.words n < 2 ^ 64 }
     ensures shows { (setting : F.Setting) → let O = F.system setting in
@@ -193,7 +195,7 @@ pub fn attempts_keep_their_order<F: Family>()
         → MaySeize O k expected }
     ensures answers { (setting : F.Setting) → let O = F.system setting in
         (k : ℕ) (a : AttemptOf O) (found : ℕ) → act a ≢ Finished → found < 2 ^ 64
-        → IsAnswerTo (act a) (answer_to O k (act a) found) }
+        → IsAnswer O (act a) (answer_to O k (act a) found) }
     ensures frees { (setting : F.Setting) → let O = F.system setting in
         (a : AttemptOf O) (lock : O.Lock) → act a ≡ Free lock
         → (a.phase ≡ Phase.GivesBack)
@@ -344,5 +346,5 @@ pub fn preferring_is_a_sharing()
 /// Sharing a lock's word by compare-and-exchange alone, without requests, keeps the rules of a
 /// sharing.
 pub fn plain_is_a_sharing()
-    ensures { (most : ℕ) → most < 2 ^ 64 → IsSharing (plain most) }
+    ensures { IsSharing plain }
 {}

@@ -11,7 +11,9 @@
 
 pub use act::Act;
 pub use answer::Answer;
+pub use clock::Clock;
 pub use judgement::Judgement;
+pub use lock_sharing::LockSharing;
 pub use operation::Operation;
 pub use phase::Phase;
 pub use reading::Reading;
@@ -19,8 +21,10 @@ pub use wanted::Wanted;
 
 mod act;
 mod answer;
+mod clock;
 mod judgement;
 pub mod laws;
+mod lock_sharing;
 pub mod lock_word;
 mod operation;
 mod phase;

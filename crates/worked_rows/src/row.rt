@@ -1,17 +1,13 @@
-use crossbar5::{Detail, Look, View};
+use crossbar5_task::{TASKS, Task};
 use std::alloc::{AllocError, Global};
 use toml::Value;
 
 /// What the engine is to do.
 #[derive(Clone, Copy)]
 pub enum Verb {
-    Replay,
+    Task(Task),
     /// A replay, and then an audit of what it wrote.
     ReplayAndAudit,
-    Walk(Detail),
-    Look(View),
-    Audit,
-    Draw(Look),
 }
 
 /// What the engine is given, and what it is expected to do.
@@ -24,8 +20,6 @@ pub struct Row<'a> {
     pub plan: &'a str,
     pub input: &'a str,
     pub output: &'a str,
-    /// The lines that say why nothing is drawn.
-    pub reasons: &'a str,
     /// The exit status that the program ends with.
     pub status: i64,
     /// The sentence on what is refused, if the row has it.
@@ -37,21 +31,11 @@ fn text_at<'a>(value: &'a Value, key: &str) -> Option<&'a str> {
 }
 
 fn verb_of(word: &str) -> Option<Verb> {
-    match word {
-        "replay" => Some(Verb::Replay),
-        "replay and audit" => Some(Verb::ReplayAndAudit),
-        "walk" => Some(Verb::Walk(Detail::Each)),
-        "walk in short" => Some(Verb::Walk(Detail::Short)),
-        "walk as JSON" => Some(Verb::Walk(Detail::JsonLines)),
-        "look" => Some(Verb::Look(View::Words)),
-        "look as JSON" => Some(Verb::Look(View::Json)),
-        "look in SVG" => Some(Verb::Look(View::Drawing)),
-        "audit" => Some(Verb::Audit),
-        "draw" => Some(Verb::Draw(Look::Text)),
-        "draw in SVG" => Some(Verb::Draw(Look::Drawing)),
-        "page" => Some(Verb::Draw(Look::Page)),
-        _ => None,
+    if word == "replay and audit" {
+        return Some(Verb::ReplayAndAudit);
     }
+    let task = TASKS.iter().find(|task| task.name() == word)?;
+    Some(Verb::Task(*task))
 }
 
 /// Adds a line of the plan, with the row's value if it has one. An empty value drops the line.
@@ -87,7 +71,6 @@ pub fn row_of<'a>(value: &'a Value, plan: &'a str) -> Option<Row<'a>> {
         plan,
         input: text_at(value, "input").unwrap_or(""),
         output: text_at(value, "output")?,
-        reasons: text_at(value, "reasons").unwrap_or(""),
         status: value
             .get("status")
             .map_or(0, |status| status.as_integer().unwrap_or(0)),

@@ -2,7 +2,8 @@ ghost use Rattle.std.specs.Prelude.{◌≡◌, ◌↔◌, IfSome, IsTrue, Some, 
 ghost use Rattle.worked_rows.specs.Agreement.{Agrees};
 
 use crate::row::{Row, Verb};
-use crossbar5::{Counted, EngineFault, Response, Status, Task, answer_task, kinds_of};
+use crossbar5::{Counted, EngineFault, PlanSource, Written, do_task, kinds_for};
+use crossbar5_task::Task;
 use std::alloc::{AllocError, Global};
 use std::fmt;
 
@@ -10,8 +11,6 @@ use std::fmt;
 #[derive(Drop)]
 pub struct RowResult {
     pub text: Vec<u8>,
-    /// Why nothing was drawn. Otherwise empty.
-    pub reasons: Vec<u8>,
     pub status: i64,
     /// The sentence on what was refused, if there is one.
     pub diagnostic: Option<String>,
@@ -23,7 +22,6 @@ impl RowResult {
         ensures { IsTrue result ↔ Agrees self.now row.now }
     {
         self.text.as_slice() == row.output.as_bytes()
-            && self.reasons.as_slice() == row.reasons.as_bytes()
             && self.status == row.status
             && is_told(&self.diagnostic, row.diagnostic)
     }
@@ -44,13 +42,9 @@ fn is_told(told: &Option<String>, wanted: Option<&str>) -> bool
 impl fmt::Display for RowResult {
     fn fmt<W: fmt::Write>(&self, f: &mut fmt::Formatter<W>) -> fmt::Result {
         let text = str::from_utf8(&self.text).unwrap_or("no text");
-        let reasons = str::from_utf8(&self.reasons).unwrap_or("no text");
         let diagnostic = self.diagnostic.as_deref().unwrap_or("no diagnostic");
         let status = self.status;
-        write!(
-            f,
-            "status {status}, {diagnostic}, and this:\n{text}{reasons}"
-        )
+        write!(f, "status {status}, {diagnostic}, and this:\n{text}")
     }
 }
 
@@ -60,7 +54,6 @@ pub fn run_row(alloc: Global, row: &Row<'_>) -> Result<RowResult, AllocError> {
         Ok(found) => Ok(found),
         Err(fault) => Ok(RowResult {
             text: fault.to_string(alloc)?.into_bytes(),
-            reasons: Vec::new(alloc),
             status: 1,
             diagnostic: None,
         }),
@@ -70,23 +63,11 @@ pub fn run_row(alloc: Global, row: &Row<'_>) -> Result<RowResult, AllocError> {
 /// Does the row's task or tasks.
 fn done(alloc: Global, row: &Row<'_>) -> Result<RowResult, EngineFault> {
     let input = row.input.as_bytes();
-    let kinds = kinds_of(alloc, row.markers)?;
-    let replay = Task::Replay { kinds: &kinds };
     match row.verb {
-        Verb::Replay => written(alloc, replay, row.plan, input),
-        Verb::Walk(detail) => {
-            let kinds = kinds.as_slice();
-            written(alloc, Task::Walk { kinds, detail }, row.plan, input)
-        }
-        Verb::Look(view) => {
-            let kinds = kinds.as_slice();
-            written(alloc, Task::Look { kinds, view }, row.plan, input)
-        }
-        Verb::Audit => written(alloc, Task::Audit, row.plan, input),
-        Verb::Draw(look) => written(alloc, Task::Draw { look }, row.plan, input),
+        Verb::Task(task) => written(alloc, task, row, input),
         Verb::ReplayAndAudit => {
-            let mut found = written(alloc, replay, row.plan, input)?;
-            let audit = written(alloc, Task::Audit, row.plan, &found.text)?;
+            let mut found = written(alloc, Task::Replay, row, input)?;
+            let audit = written(alloc, Task::Audit, row, &found.text)?;
             if found.status == 0 {
                 found.status = audit.status;
             }
@@ -95,38 +76,27 @@ fn done(alloc: Global, row: &Row<'_>) -> Result<RowResult, EngineFault> {
     }
 }
 
-/// Does a task with the engine.
+/// Does a task with the engine, in the row's office.
 fn written(
     alloc: Global,
-    task: Task<'_>,
-    plan: &str,
+    task: Task,
+    row: &Row<'_>,
     input: &[u8],
 ) -> Result<RowResult, EngineFault> {
-    let mut source = Counted::new(input);
-    let mut sink = Counted::new(Vec::new(alloc));
-    let Response {
+    let kinds = kinds_for(alloc, task, row.markers.as_bytes())?;
+    let plan = PlanSource::Text(row.plan.as_bytes());
+    let Written {
+        text,
         status,
         diagnostic,
-        reasons,
-    } = answer_task(alloc, task, plan.as_bytes(), &mut source, &mut sink)?;
+    } = do_task(alloc, task, plan, &kinds, &mut Counted::new(input))?;
     let diagnostic = match diagnostic? {
         Some(diagnostic) => Some(diagnostic.to_string(alloc)?),
         None => None,
     };
     Ok(RowResult {
-        text: sink.into_inner(),
-        reasons,
-        status: status_number(status),
+        text,
+        status: i64::from(status.number()),
         diagnostic,
     })
-}
-
-/// The program's exit status for a status of the engine.
-fn status_number(status: Status) -> i64 {
-    match status {
-        Status::Fine => 0,
-        Status::PlanRefused => 3,
-        Status::TrafficRefused | Status::ReportRefused => 4,
-        Status::FoundWrong => 7,
-    }
 }

@@ -1,3 +1,4 @@
 pub mod Shifts
 pub mod Logs
 pub mod Trying
+pub mod Freely

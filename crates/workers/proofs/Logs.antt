@@ -2,6 +2,7 @@
 use Rattle.std.proofs.Common.{◌≡◌, ℕ, ◌≤◌, ◌<◌, ◌^◌, List, [], ◌∷◌, ◌++◌, length, refl, sym, ap, subst, ◌∙◌, inl, ◌+◌, length-append, arith}
 use Rattle.std.specs.Prelude.{Bool, true, Option, Some, None, IfSome, option_to_list}
 use Rattle.turns.specs.Among.{IsIn}
+use Rattle.turns.specs.Clock.{IsCounted}
 use Rattle.turns.specs.Law.{IsLegal}
 use Rattle.turns.specs.System.{System}
 use Rattle.turns.specs.World.{ActorOf, RecordOf}
@@ -41,21 +42,30 @@ module _ (O : System) where
 
   -- a job of a desk that had learned a note comes after the noted turns
   pub after_noted : (k number : ℕ) (job : O.Job) (m before after : ActorOf O) (free : Bool) (noted seen seen_after : Order) (result : Option (JobRecord O.Job O.Reply))
-      → ((earlier r : RecordOf O) → Begins noted seen → IsIn earlier noted → ComesAfter O seen seen_after r → IsLegal O 0 O.opening seen_after → length seen_after ≤ 2 ^ 64 → earlier.turn < r.turn)
+      → ((earlier r : RecordOf O) → IsCounted O.clock → Begins noted seen → IsIn earlier noted → ComesAfter O seen seen_after r → IsLegal O 0 O.opening seen_after → length seen_after ≤ 2 ^ 64 → earlier.turn < r.turn)
       → ((reported : Order) (r : RecordOf O) → HasWorked O k before after seen seen_after reported → unreported O k before ≡ [] → IsLegal O 0 O.opening seen_after → IsIn r reported → ComesAfter O seen seen_after r)
       → Begins noted seen → before ≡ assigned_if O free number job m → free ≡ true → IsLegal O 0 O.opening seen_after
-      → HasWorked O k before after seen seen_after (records (option_to_list result)) → IfSome result (λ reported. length seen_after ≤ 2 ^ 64 → IsAfter noted reported)
+      → HasWorked O k before after seen seen_after (records (option_to_list result)) → IfSome result (λ reported. IsCounted O.clock → length seen_after ≤ 2 ^ 64 → IsAfter noted reported)
   after_noted k number job m before after free noted seen seen_after None precedes comes begins is taken legal worked = tt
-  after_noted k number job m before after free noted seen seen_after (Some reported) precedes comes begins is taken legal worked = λ few earlier within.
-      precedes earlier (as_record reported) begins within (comes (as_record reported ∷ []) (as_record reported) worked (none_yet k number job m before free is taken) legal (inl refl)) legal few
+  after_noted k number job m before after free noted seen seen_after (Some reported) precedes comes begins is taken legal worked = λ counted few earlier within.
+      precedes earlier (as_record reported) counted begins within (comes (as_record reported ∷ []) (as_record reported) worked (none_yet k number job m before free is taken) legal (inl refl)) legal few
+
+  pub comes_noted : (k number : ℕ) (job : O.Job) (m before after : ActorOf O) (free : Bool) (noted seen seen_after : Order) (result : Option (JobRecord O.Job O.Reply))
+      → ((r : RecordOf O) → Begins noted seen → ComesAfter O seen seen_after r → ComesAfter O noted seen_after r)
+      → ((reported : Order) (r : RecordOf O) → HasWorked O k before after seen seen_after reported → unreported O k before ≡ [] → IsLegal O 0 O.opening seen_after → IsIn r reported → ComesAfter O seen seen_after r)
+      → Begins noted seen → before ≡ assigned_if O free number job m → free ≡ true → IsLegal O 0 O.opening seen_after
+      → HasWorked O k before after seen seen_after (records (option_to_list result)) → IfSome result (λ reported. ComesAfter O noted seen_after (as_record reported))
+  comes_noted k number job m before after free noted seen seen_after None earlier comes begins is taken legal worked = tt
+  comes_noted k number job m before after free noted seen seen_after (Some reported) earlier comes begins is taken legal worked =
+      earlier (as_record reported) begins (comes (as_record reported ∷ []) (as_record reported) worked (none_yet k number job m before free is taken) legal (inl refl))
 
   pub behind_noted : (k number : ℕ) (job : O.Job) (m before after : ActorOf O) (free : Bool) (noted seen seen_after : Order) (result : Option (JobRecord O.Job O.Reply))
       → ((reported : Order) (r : RecordOf O) → HasWorked O k before after seen seen_after reported → unreported O k before ≡ [] → IsLegal O 0 O.opening seen_after → IsIn r reported → ComesAfter O seen seen_after r)
       → Begins noted seen → before ≡ assigned_if O free number job m → free ≡ true → IsLegal O 0 O.opening seen_after
-      → HasWorked O k before after seen seen_after (records (option_to_list result)) → IfSome result (λ reported. length seen_after ≤ 2 ^ 64 → length noted ≤ reported.turn)
+      → HasWorked O k before after seen seen_after (records (option_to_list result)) → IfSome result (λ reported. IsCounted O.clock → length seen_after ≤ 2 ^ 64 → length noted ≤ reported.turn)
   behind_noted k number job m before after free noted seen seen_after None comes begins is taken legal worked = tt
-  behind_noted k number job m before after free noted seen seen_after (Some reported) comes begins is taken legal worked = λ few.
-      let late = (comes (as_record reported ∷ []) (as_record reported) worked (none_yet k number job m before free is taken) legal (inl refl)).turn few in
+  behind_noted k number job m before after free noted seen seen_after (Some reported) comes begins is taken legal worked = λ counted few.
+      let late = (comes (as_record reported ∷ []) (as_record reported) worked (none_yet k number job m before free is taken) legal (inl refl)).turn counted few in
       let long : length seen ≡ length noted + length begins.0 = ap length begins.1 ∙ length-append noted begins.0 in
       omega (arith, late, long)
 

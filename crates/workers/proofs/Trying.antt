@@ -1,7 +1,8 @@
 -- tries at a job, one after another
 use Rattle.std.proofs.Common.{◌≡◌, ◌≢◌, ℕ, zero, suc, ◌+◌, ◌≤◌, ◌^◌, ◌++◌, List, [], ◌∷◌, length, refl, sym, ap, subst, ◌∙◌, inl, inr, arith}
-use Rattle.std.specs.Prelude.{Bool, true, false, Option, Some, None, IfSome, OnOk, Result, Ok, Err, is_err, is_some, ◌⊎◌}
-use Rattle.turns.specs.Attempt.{AttemptOf, act, act_in, answer_to, begin, changed, closing_act, free_act, next, operated, rest_of}
+use Rattle.std.specs.Prelude.{Bool, true, false, Option, Some, None, OnOk, Result, Ok, Err, is_err, option_map, ◌⊎◌}
+use Rattle.turns.specs.Attempt.{AttemptOf, act, act_in, answer_to, asked_in, begin, changed, closing_act, free_act, next, operated, rest_of}
+use Rattle.turns.specs.Denied.{IsDeniedBy}
 use Rattle.turns.specs.Outcomes.{IsPastTurn, begun_anew}
 use Rattle.turns.specs.Runs.{is_available, is_finished}
 use Rattle.turns.specs.System.{System}
@@ -9,15 +10,17 @@ use Rattle.turns.specs.World.{ActorOf, Does, Idle, RecordOf}
 use Rattle.turns.specs.declared.act.Act.{Act}
 use Rattle.turns.specs.declared.act.Act.TheVariants.{Finished, Request, Seize, Withdraw, Free, Test, Turn, Make}
 use Rattle.turns.specs.declared.answer.Answer.{Answer}
-use Rattle.turns.specs.declared.answer.Answer.TheVariants.{Done}
+use Rattle.turns.specs.declared.answer.Answer.TheVariants.{Done, Held, Preferred}
+use Rattle.turns.specs.declared.judgement.Judgement.{Judgement}
+use Rattle.turns.specs.declared.judgement.Judgement.TheVariants as judgement
 use Rattle.turns.specs.declared.phase.Phase.{Phase}
 use Rattle.turns.specs.declared.phase.Phase.TheVariants.{Requests, Seizes, Tests, Turns, Withdraws, GivesBack, Operates}
-use Rattle.desks.specs.Desks.{HasGivenBack, HasStepped}
+use Rattle.desks.specs.Desks.{HasGivenBack, HasStepped, asked_by}
 use Rattle.desks.specs.Kept.{number_found}
 use Rattle.desks.specs.Met.{DeskOf}
 use Rattle.desks.specs.Running.{IsOperating, NothingLeftPastTurn}
 use Rattle.desks.specs.declared.progress.Progress.TheVariants as progress
-use Rattle.workers.specs.Tries.{HasCome, HasDone, HasGivenUp, HasGoneOn, HasLogged, HasPersisted, HasTried, HasTriedInVain, IsAtBeginning, IsStuck, IsTry, MakesUpTo, Reported}
+use Rattle.workers.specs.Tries.{HasCome, HasGoneOnFreely, HasMissed, HasDone, HasGivenUp, HasGoneOn, HasLogged, HasPersisted, HasTried, HasTriedInVain, IsAtBeginning, IsStuck, IsTry, MakesUpTo, Reported, denies, record_of}
 use Rattle.workers.specs.Workers.{HasFinished}
 
 pub not_both : (b : Bool) → b ≡ true → b ≡ false → ⊥
@@ -53,7 +56,7 @@ module _ (O : System) where
   left_past_turn Idle = 0
   left_past_turn (Does number a) = length a.effects + length a.held
 
-  is_unfinished : (step : Act O.Lock O.Effect) → step ≢ Finished → is_finished step ≡ false
+  pub is_unfinished : (step : Act O.Lock O.Effect) → step ≢ Finished → is_finished step ≡ false
   is_unfinished Finished some = absurd (some refl)
   is_unfinished (Request lock) some = refl
   is_unfinished (Seize lock expected) some = refl
@@ -148,79 +151,161 @@ module _ (O : System) where
   given_back k (Does number a) after seen seen_after busy nothing back =
       subst (IsAtBeginning O) (sym back.after_is) (at_beginning number a a.phase refl (λ past. goes_on (act a) busy (nothing past)))
 
-  -- a job that was ended is a try
-  pub try_ended : {Setting : Type 0} (desk after : DeskOf O Setting) (result : Option (Reported O)) → HasFinished O desk after result → IfSome result (λ _. is_available O after.actor ≡ true) → is_some result ≡ true → IsTry O desk after result
-  try_ended desk after None finished free some = absurd cc
-  try_ended desk after (Some reported) finished free some = (finished, free)
+  -- a step that asks for a lock is that of a phase that does
+  frees_none : (held : List O.Lock) (lock : O.Lock) → free_act {Effect = O.Effect} held ≡ Request lock → ⊥
+  frees_none [] lock e = cc
+  frees_none (own ∷ held) lock e = cc
 
-  pub tried_finished : {Setting : Type 0} (desk after : DeskOf O Setting) (result : Option (Reported O)) → IsTry O desk after result → HasFinished O desk after result
-  tried_finished desk after None is = is.0
-  tried_finished desk after (Some reported) is = is.0
+  frees_none_seized : (held : List O.Lock) (lock : O.Lock) (expected : ℕ) → free_act {Effect = O.Effect} held ≡ Seize lock expected → ⊥
+  frees_none_seized [] lock expected e = cc
+  frees_none_seized (own ∷ held) lock expected e = cc
 
-  -- a desk that has ended its job has come to a try
-  pub made_try : {Setting : Type 0} (most : ℕ) (desk after : DeskOf O Setting) (reported : Reported O) → HasFinished O desk after (Some reported) → MakesUpTo O most desk after (Some reported) → IsTry O desk after (Some reported)
-  made_try most desk after reported finished made = (finished, made.4.advanced.2)
+  requests_in : (a : AttemptOf O) (phase : Phase O.Lock ℕ) (lock : O.Lock) → act_in phase a ≡ Request lock → asked_in phase ≡ Some lock
+  requests_in a (Requests own) lock e = cc
+  requests_in a (Seizes own expected) lock e = cc
+  requests_in a (Tests word) lock e = cc
+  requests_in a Turns lock e = cc
+  requests_in a (Withdraws own) lock e = cc
+  requests_in a GivesBack lock e = absurd (frees_none a.held lock e)
+  requests_in a (Operates turn) lock e = at a.effects e where
+    at : (effects : List O.Effect) → closing_act effects a.held ≡ Request lock → asked_in {Lock = O.Lock} (Operates turn) ≡ Some lock
+    at [] e = absurd (frees_none a.held lock e)
+    at (effect ∷ effects) e = absurd cc
 
-  module _ (Answers : ℕ → Bool → Type 0) where
+  seizes_in : (a : AttemptOf O) (phase : Phase O.Lock ℕ) (lock : O.Lock) (expected : ℕ) → act_in phase a ≡ Seize lock expected → asked_in phase ≡ Some lock
+  seizes_in a (Requests own) lock expected e = cc
+  seizes_in a (Seizes own other) lock expected e = cc
+  seizes_in a (Tests word) lock expected e = cc
+  seizes_in a Turns lock expected e = cc
+  seizes_in a (Withdraws own) lock expected e = cc
+  seizes_in a GivesBack lock expected e = absurd (frees_none_seized a.held lock expected e)
+  seizes_in a (Operates turn) lock expected e = at a.effects e where
+    at : (effects : List O.Effect) → closing_act effects a.held ≡ Seize lock expected → asked_in {Lock = O.Lock} (Operates turn) ≡ Some lock
+    at [] e = absurd (frees_none_seized a.held lock expected e)
+    at (effect ∷ effects) e = absurd cc
+
+  -- so the desk that was denied had asked for this lock
+  pub asked_by_step : (k found : ℕ) (a : AttemptOf O) (judgement : Judgement) → (denial : IsDeniedBy O k (act a) found judgement) → asked_in a.phase ≡ Some denial.lock
+  asked_by_step k found a judgement denial = elim denial.asks [
+    | inl asks ↦ requests_in a a.phase denial.lock asks
+    | inr (expected, seizes, other) ↦ seizes_in a a.phase denial.lock expected seizes
+  ]
+
+  -- a denial names the lock that the desk asked for
+  module _ {Setting : Type 0} (patience count : ℕ) (desk asking after : DeskOf O Setting) (word : Option ℕ) (is : word ≡ option_map O.lock_word (asked_by asking.actor)) (gone : HasGoneOnFreely O count desk asking) where
+    abbrev SteppedWith : Answer → Type 0
+    SteppedWith answer = HasStepped O asking.number asking.actor after.actor asking.seen after.seen answer
+
+    abbrev DeniesBy : (answer : Answer) → Judgement → Type 0
+    DeniesBy answer judgement = (step : SteppedWith answer) → IsDeniedBy O asking.number (act step.attempt) (number_found O step.world step.attempt) judgement
+
+    named : (answer : Answer) (judgement : Judgement) → HasCome O asking after (progress.Moved answer) → denies answer ≡ true → DeniesBy answer judgement → HasMissed O patience desk after word
+    named answer judgement came denied by =
+        let step = came.advanced.0 in
+        let denial = by step in
+        let asks : asked_by asking.actor ≡ Some denial.lock = ap asked_by step.before_is ∙ asked_by_step asking.number (number_found O step.world step.attempt) step.attempt judgement denial in
+        subst (HasMissed O patience desk after) (sym (is ∙ ap (option_map O.lock_word) asks)) (record {
+          count = count;
+          asking = asking;
+          gone_on = gone;
+          lock = denial.lock;
+          asks = asks;
+          word_is = refl;
+          answer = answer;
+          came = came;
+          is_denial = denied;
+        })
+
+    pub denied_by : (answer : Answer) → HasCome O asking after (progress.Moved answer) → denies answer ≡ true → ((holder : ℕ) → DeniesBy (Held holder) (judgement.Held holder)) → ((other : ℕ) → DeniesBy (Preferred other) (judgement.Preferred other)) → HasMissed O patience desk after word
+    denied_by (Held holder) came denied held preferred = named (Held holder) (judgement.Held holder) came denied (held holder)
+    denied_by (Preferred other) came denied held preferred = named (Preferred other) (judgement.Preferred other) came denied (preferred other)
+    denied_by answer came denied held preferred = absurd cc
+
+  -- one step more that was denied none
+  pub freely_more : {Setting : Type 0} (count : ℕ) (desk between after : DeskOf O Setting) (answer : Answer) → HasGoneOnFreely O count desk between → HasCome O between after (progress.Moved answer) → denies answer ≡ false → HasGoneOnFreely O (count + 1) desk after
+  freely_more {Setting} count desk between after answer gone came free =
+      let one : suc count ≡ count + 1 = omega arith in
+      subst (λ (n : ℕ). HasGoneOnFreely O n desk after) one (between, answer, gone, came, free)
+
+  pub tried_finished : {Setting : Type 0} (patience : ℕ) (desk after : DeskOf O Setting) (came : Result (Reported O) (Option ℕ)) → IsTry O patience desk after came → HasFinished O desk after (record_of came)
+  tried_finished patience desk after (Ok reported) is = is.0
+  tried_finished patience desk after (Err denied) is = is.finished
+
+  module _ (Answers : ℕ → Option ℕ → Bool → Type 0) (patience : ℕ) where
     -- one more try in vain
-    pub tried_more : {Setting : Type 0} (made : ℕ) (desk between after : DeskOf O Setting) → HasTriedInVain O Answers made desk between → IsTry O between after None → Answers (suc made) true → HasTriedInVain O Answers (suc made) desk after
-    tried_more made desk between after tried one again = (between, tried, one, again)
+    pub tried_more : {Setting : Type 0} (made : ℕ) (desk between after : DeskOf O Setting) (denied : Option ℕ) → HasTriedInVain O Answers patience made desk between → IsTry O patience between after (Err denied) → Answers (suc made) denied true → HasTriedInVain O Answers patience (suc made) desk after
+    tried_more made desk between after denied tried one again = (between, denied, tried, one, again)
 
-    -- one more try in vain, after which there is no further one
-    pub tried_last : {Setting : Type 0} (made : ℕ) (desk between after : DeskOf O Setting) → HasTriedInVain O Answers made desk between → IsTry O between after None → Answers (suc made) false → HasTried O Answers desk after None
-    tried_last made desk between after tried one no_more = record {
+    -- one more try, which ended the job
+    pub tried_well : {Setting : Type 0} (made : ℕ) (desk between after : DeskOf O Setting) (reported : Reported O) → HasTriedInVain O Answers patience made desk between → IsTry O patience between after (Ok reported) → HasTried O Answers patience desk after (Some reported)
+    tried_well made desk between after reported tried one = record {
       made = made;
       between = between;
       in_vain = tried;
+      last = one;
+    }
+
+    -- one more try in vain, after which there is no further one
+    pub tried_last : {Setting : Type 0} (made : ℕ) (desk between after : DeskOf O Setting) (denied : Option ℕ) → HasTriedInVain O Answers patience made desk between → IsTry O patience between after (Err denied) → Answers (suc made) denied false → HasTried O Answers patience desk after None
+    tried_last made desk between after denied tried one no_more = record {
+      made = made;
+      between = between;
+      in_vain = tried;
+      denied = denied;
       last = one;
       gave_up = inl no_more;
     }
 
     -- as many tries were made in vain as can be counted
-    pub tried_all : {Setting : Type 0} (made : ℕ) (desk after : DeskOf O Setting) → made + 2 ≡ 2 ^ 64 → HasTriedInVain O Answers made desk after → HasTried O Answers desk after None
+    pub tried_all : {Setting : Type 0} (made : ℕ) (desk after : DeskOf O Setting) → made + 2 ≡ 2 ^ 64 → HasTriedInVain O Answers patience made desk after → HasTried O Answers patience desk after None
     tried_all zero desk after all tried = absurd (omega (arith, all))
     tried_all (suc made) desk after all tried = record {
       made = made;
       between = tried.0;
-      in_vain = tried.1;
-      last = tried.2;
+      in_vain = tried.2;
+      denied = tried.1;
+      last = tried.3;
       gave_up = inr all;
     }
 
     -- after tries in vain there is no further one
-    pub gives_up : {Setting : Type 0} (desk after : DeskOf O Setting) → HasTried O Answers desk after None → HasGivenUp O Answers after.actor
+    pub gives_up : {Setting : Type 0} (desk after : DeskOf O Setting) → HasTried O Answers patience desk after None → HasGivenUp O Answers after.actor
     gives_up desk after tried = record {
-      beginning = tried.last.1;
+      beginning = tried.last.beginning;
       made = suc tried.made;
+      denied = tried.denied;
       last = tried.gave_up;
     }
 
+  module _ (Answers : ℕ → Option ℕ → Bool → Type 0) (Patience : ℕ → ℕ → Type 0) where
     -- a free desk that was given a job, and persisted in it, has done it
-    pub done_free : {Setting : Type 0} (desk begun after : DeskOf O Setting) (number : ℕ) (job : O.Job) (result : Option (Reported O)) → is_available O desk.actor ≡ true → begun ≡ record desk { actor = Does number (begin O job) } → HasPersisted O Answers begun after result → HasDone O Answers desk after number job result
+    pub done_free : {Setting : Type 0} (desk begun after : DeskOf O Setting) (number : ℕ) (job : O.Job) (result : Option (Reported O)) → is_available O desk.actor ≡ true → begun ≡ record desk { actor = Does number (begin O job) } → HasPersisted O Answers Patience begun after result → HasDone O Answers Patience desk after number job result
     done_free {Setting} desk begun after number job result free is persisted = record {
       busy = λ busy. absurd (not_both _ free busy);
-      tried = λ free. subst (λ (d : DeskOf O Setting). HasTried O Answers d after result) is (persisted.tried (subst (λ (d : DeskOf O Setting). is_available O d.actor ≡ false) (sym is) refl));
+      tried = λ free.
+          let tried = persisted.tried (subst (λ (d : DeskOf O Setting). is_available O d.actor ≡ false) (sym is) refl) in
+          (tried.0, subst (λ (d : DeskOf O Setting). Patience d.number tried.0) is tried.1, subst (λ (d : DeskOf O Setting). HasTried O Answers tried.0 d after result) is tried.2);
     }
 
     -- what a worker came to at a free desk's new job was logged
     pub logged_done : {Setting : Type 0} (desk begun after : DeskOf O Setting) (number : ℕ) (job : O.Job) (HadNoRoom NoRoom : Type 0) (log between log_after : List (Reported O)) (result : Bool) → is_available O desk.actor ≡ true → begun ≡ record desk { actor = Does number (begin O job) } → (NoRoom → ⊥) → between ≡ log
-        → HasLogged O (HasPersisted O Answers begun after) NoRoom between log_after result → HasLogged O (HasDone O Answers desk after number job) HadNoRoom log log_after result
+        → HasLogged O (HasPersisted O Answers Patience begun after) NoRoom between log_after result → HasLogged O (HasDone O Answers Patience desk after number job) HadNoRoom log log_after result
     logged_done desk begun after number job HadNoRoom NoRoom log between log_after true free is room same logged =
         (logged.0, logged.1 ∙ ap (λ (l : List (Reported O)). l ++ logged.0 ∷ []) same, done_free desk begun after number job (Some logged.0) free is logged.2)
     logged_done desk begun after number job HadNoRoom NoRoom log between log_after false free is room same logged = (logged.0 ∙ same, by logged.1) where
-      by : HasPersisted O Answers begun after None ⊎ NoRoom → HasDone O Answers desk after number job None ⊎ HadNoRoom
+      by : HasPersisted O Answers Patience begun after None ⊎ NoRoom → HasDone O Answers Patience desk after number job None ⊎ HadNoRoom
       by (inl persisted) = inl (done_free desk begun after number job None free is persisted)
       by (inr full) = absurd (room full)
 
     -- a worker whose desk was free has logged its job, and the desk is free again
-    pub logged_free : {Setting : Type 0} (desk after : DeskOf O Setting) (number : ℕ) (job : O.Job) (HadNoRoom : Type 0) (log log_after : List (Reported O)) (result : Bool) → is_available O desk.actor ≡ true → result ≡ true → HasLogged O (HasDone O Answers desk after number job) HadNoRoom log log_after result → is_available O after.actor ≡ true
-    logged_free desk after number job HadNoRoom log log_after true free yes_logged logged = (logged.2.tried free).last.1
+    pub logged_free : {Setting : Type 0} (desk after : DeskOf O Setting) (number : ℕ) (job : O.Job) (HadNoRoom : Type 0) (log log_after : List (Reported O)) (result : Bool) → is_available O desk.actor ≡ true → result ≡ true → HasLogged O (HasDone O Answers Patience desk after number job) HadNoRoom log log_after result → is_available O after.actor ≡ true
+    logged_free desk after number job HadNoRoom log log_after true free yes_logged logged = (logged.2.tried free).2.last.1
     logged_free desk after number job HadNoRoom log log_after false free yes_logged logged = absurd cc
 
     -- or it is stuck
-    pub logged_stuck : {Setting : Type 0} (desk after : DeskOf O Setting) (number : ℕ) (job : O.Job) (len capacity : ℕ) (HadNoRoom : Type 0) (log log_after : List (Reported O)) (result : Bool) → is_available O desk.actor ≡ true → result ≡ false → (log_after ≡ log → HadNoRoom → len ≡ capacity) → HasLogged O (HasDone O Answers desk after number job) HadNoRoom log log_after result → IsStuck O Answers len capacity after.actor
+    pub logged_stuck : {Setting : Type 0} (desk after : DeskOf O Setting) (number : ℕ) (job : O.Job) (len capacity : ℕ) (HadNoRoom : Type 0) (log log_after : List (Reported O)) (result : Bool) → is_available O desk.actor ≡ true → result ≡ false → (log_after ≡ log → HadNoRoom → len ≡ capacity) → HasLogged O (HasDone O Answers Patience desk after number job) HadNoRoom log log_after result → IsStuck O Answers len capacity after.actor
     logged_stuck desk after number job len capacity HadNoRoom log log_after true free not_logged full logged = absurd cc
     logged_stuck desk after number job len capacity HadNoRoom log log_after false free not_logged full logged = by logged.1 where
-      by : HasDone O Answers desk after number job None ⊎ HadNoRoom → IsStuck O Answers len capacity after.actor
-      by (inl done) = inr (gives_up _ after (done.tried free))
+      by : HasDone O Answers Patience desk after number job None ⊎ HadNoRoom → IsStuck O Answers len capacity after.actor
+      by (inl done) = inr (let tried = done.tried free in gives_up Answers tried.0 _ after tried.2)
       by (inr none) = inl (full logged.0 none)

@@ -2,7 +2,7 @@
 //! records that it has reported. For jobs of any kind.
 #![tactic(auto)]
 
-pub use back_off::{BackOff, Yielding};
+pub use back_off::{BackOff, Pausing};
 pub use doing_all::do_all;
 pub use driving::{do_after, finish, persist};
 pub use on_threads::{Routine, at_once};

@@ -49,7 +49,7 @@ impl<F: Jobs> Shift<F> {
         ensures none { result ≡ false → self.new.log.items ≡ self.old.log.items }
         ensures logged { HasLogged (system_of (F.system setting.now))
             (HasPersisted (system_of (F.system setting.now)) (B.Answers back_off.now)
-            self.old.desk self.new.desk)
+            (B.Patience back_off.now) self.old.desk self.new.desk)
             ((vec_len self.old.log ≡ vec_capacity self.old.log)
             × (vec_capacity self.new.log ≡ vec_capacity self.old.log)
             × (self.new.desk ≡ self.old.desk))
@@ -90,7 +90,7 @@ impl<F: Jobs> Shift<F> {
         ensures none { result ≡ false → self.new.log.items ≡ self.old.log.items }
         ensures logged { HasLogged (system_of (F.system setting.now))
             (HasDone (system_of (F.system setting.now)) (B.Answers back_off.now)
-            self.old.desk self.new.desk number job)
+            (B.Patience back_off.now) self.old.desk self.new.desk number job)
             ((vec_len self.old.log ≡ vec_capacity self.old.log)
             × (vec_capacity self.new.log ≡ vec_capacity self.old.log)
             × (self.new.desk ≡ self.old.desk))

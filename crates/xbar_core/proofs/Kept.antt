@@ -5,13 +5,13 @@ use Rattle.std.specs.Prelude.{Option, Some, None, is_some, if◌then◌else◌, 
 use Rattle.std.proofs.lemmas.List.{length-map}
 use Rattle.std.proofs.lemmas.Option.{none-some, same_Some, slice_get_within}
 use Rattle.turns.specs.Attempt as generic
-use Rattle.turns.specs.Attempt.{act, act_in, begin_with, change, changed, closing_act, free_act, operated, restarted, restarted_in, turn_in, IsAnswerTo, forgotten, giving_back}
-use Rattle.turns.specs.declared.act.Act.TheVariants.{Request, Seize, Finished}
+use Rattle.turns.specs.Attempt.{act, act_in, begin_with, change, changed, closing_act, free_act, operated, restarted, restarted_in, turn_in, IsAnswer, IsAnswerTo}
+use Rattle.turns.specs.declared.act.Act.TheVariants.{Finished, Request, Seize, Withdraw, Free, Test, Turn as TakeTurn, Make}
 use Rattle.turns.specs.World as worlds
 use Rattle.turns.specs.World.{Idle, Does, added_in, place}
 use Rattle.turns.specs.Runs.{is_finished}
 use Rattle.turns.specs.declared.answer.Answer.{Answer}
-use Rattle.turns.specs.declared.answer.Answer.TheVariants.{Value, Done}
+use Rattle.turns.specs.declared.answer.Answer.TheVariants.{Asked, Seized, Held, Preferred, Again, Value, Turn, Done}
 use Rattle.turns.specs.declared.phase.Phase.TheVariants.{Requests, Seizes, Tests, Turns, Withdraws, GivesBack, Operates}
 use Rattle.turns.proofs.ExactWords.{answers_fit}
 use Rattle.turns.proofs.Lists.{one_or_two}
@@ -21,7 +21,7 @@ use Rattle.xbar_plan.specs.Lawful.{IsLawful}
 use Rattle.xbar_office.specs.Legal.{IsJob}
 use Rattle.xbar_office.specs.declared.job.Job.{Job}
 use Rattle.xbar_office.specs.declared.reply.Reply.{Reply}
-use Rattle.xbar_jobs.specs.Attempt.{Attempt, Phase}
+use Rattle.xbar_jobs.specs.Attempt.{Act, Attempt, Phase}
 use Rattle.xbar_jobs.specs.Jobs.{first_conn}
 use Rattle.xbar_jobs.specs.Office.{office}
 use Rattle.xbar_jobs.specs.Standing.{IsValid}
@@ -58,13 +58,31 @@ module _ (plan : Tables) where
   job_there : (e : Exchange) (k n : ℕ) (a : Attempt) → IsLawfulExchange plan e → IsAt e k n a → IsJob a.job
   job_there e k n a law at = (law.sound k n a (actor_at e k n a at)).job
 
+  -- the office's markers ask first, so no request is answered that the connector is seized
+  fits_asking : (step : Act) (answer : Answer) → IsAnswer (office plan) step answer → IsAnswerTo step answer
+  fits_asking Finished answer is = is
+  fits_asking (Request conn) (Asked word) is = tt
+  fits_asking (Request conn) Seized is = absurd cc
+  fits_asking (Request conn) (Held holder) is = is
+  fits_asking (Request conn) (Preferred other) is = is
+  fits_asking (Request conn) (Again word) is = is
+  fits_asking (Request conn) (Value value) is = is
+  fits_asking (Request conn) (Turn number) is = is
+  fits_asking (Request conn) Done is = is
+  fits_asking (Seize conn expected) answer is = is
+  fits_asking (Withdraw conn) answer is = is
+  fits_asking (Free conn) answer is = is
+  fits_asking (Test word) answer is = is
+  fits_asking TakeTurn answer is = is
+  fits_asking (Make effect) answer is = is
+
   -- the answer to its next step is of that step's kind
   told_fits : (e : Exchange) (k : ℕ) (a : Attempt) → IsLawfulExchange plan e → is_finished (act a) ≡ false →
       IsAnswerTo (act a) (answer_to_step k e.words a)
   told_fits e k a law goes =
       let acts : act a ≢ Finished = λ rests. let two : true ≡ false = ap is_finished (sym rests) ∙ goes in cc in
       subst (λ (answer : Answer). IsAnswerTo (act a) answer) (sym (answer_is plan k e.words a))
-      (answers_fit (office plan) k (act a) (found_by plan e.words a) acts (law.are_words (place (office plan) (act a))))
+      (fits_asking (act a) _ (answers_fit (office plan) k (act a) (found_by plan e.words a) acts (law.are_words (place (office plan) (act a)))))
 
   pub stands_there : (e : Exchange) (k n : ℕ) (a : Attempt) → IsExchange plan e → IsAt e k n a → IsValid plan a
   stands_there e k n a was at = subst (StandsAt plan) at.work (was.valid k at.marker at.there)

@@ -114,6 +114,7 @@ module _ (plan : Tables) (k number : ℕ) where
   -- whatever the answer, an attempt stays at its job
   pub changed_job : (a : Attempt) (phase : Phase) (answer : Answer) → (changed (office plan) a phase answer).job ≡ a.job
   changed_job a (Requests conn) (Asked word) = refl
+  changed_job a (Requests conn) Seized = goes_job (record a { held = a.held ++ conn ∷ [] }) _
   changed_job a (Requests conn) (Held holder) = refl
   changed_job a (Requests conn) (Preferred other) = refl
   changed_job a (Seizes conn expected) Seized = goes_job (record a { held = a.held ++ conn ∷ [] }) _

@@ -6,3 +6,4 @@ pub mod Advances
 pub mod Meetings
 pub mod Between
 pub mod Reports
+pub mod WordPlaces

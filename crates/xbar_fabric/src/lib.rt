@@ -18,3 +18,4 @@ mod meeting;
 mod note;
 mod office;
 mod shutting;
+mod word_places;

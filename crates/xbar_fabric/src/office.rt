@@ -1,9 +1,10 @@
+use crate::word_places::{PLACE_COUNT, place};
 use attempts::{Scripts, Seen};
 use desk_attempts::{Attempts, OnWords};
 use std::alloc::{AllocError, Global};
 use std::ops::Range;
 use std::snapshot::Snapshot;
-use turns::Wanted;
+use turns::{Clock, LockSharing, Wanted};
 use xbar_equip::{Conn, WORD_COUNT, conn_number, turn_word, words_under};
 use xbar_jobs::{OfficeEffect, Offices, Operation};
 use xbar_office::{Job, Reply};
@@ -21,6 +22,7 @@ type WalkProgress = <Offices as Scripts<42, 19>>::ResumePoint;
 
 impl Scripts<42, 19> for SharedOffices {
     ghost use Rattle.attempts.specs.SystemWith.{without_decisions};
+    ghost use Rattle.turns.specs.declared.lock_sharing.LockSharing.TheVariants.{Preferring};
     ghost use Rattle.xbar_plan.specs.Lawful.{IsLawful};
     ghost use Rattle.xbar_jobs.specs.Closing.{effects as effects_by};
     ghost use Rattle.xbar_jobs.specs.Jobs.{job_line};
@@ -41,7 +43,7 @@ impl Scripts<42, 19> for SharedOffices {
 
     type ResumePoint = WalkProgress;
 
-    ghost system = { λ plan. without_decisions (office_over plan) };
+    ghost system = { λ plan. without_decisions Preferring (office_over plan) };
 
     ghost reply_of = { λ decision. decision.reply };
 
@@ -50,6 +52,10 @@ impl Scripts<42, 19> for SharedOffices {
     ghost IsSetting = { IsLawful };
 
     ghost ResumePointIsValid = { λ _ job point seen. ResumePointIsValid (job_line job) point seen };
+
+    fn sharing(plan: &Plan) -> LockSharing {
+        Offices::sharing(plan)
+    }
 
     fn first(job: &Job) -> Conn {
         Offices::first(job)
@@ -89,11 +95,14 @@ impl Scripts<42, 19> for SharedOffices {
 }
 
 impl OnWords<42, 19> for SharedOffices {
+    ghost use Rattle.xbar_fabric.specs.WordPlaces.{are_word_places, word_places};
     ghost use Rattle.xbar_jobs.proofs.Programs.{scripts_are};
 
     type Kept = Snapshot<Plan>;
 
     ghost kept = { λ snapshot. snapshot.value };
+
+    ghost places = { λ _. word_places };
 
     fn keep(plan: &Plan) -> Snapshot<Plan> {
         Snapshot::of(plan)
@@ -111,12 +120,24 @@ impl OnWords<42, 19> for SharedOffices {
         WORD_COUNT
     }
 
+    fn place(_plan: &Plan, word: usize) -> usize {
+        place(word)
+    }
+
+    fn place_count(_plan: &Plan) -> usize {
+        PLACE_COUNT
+    }
+
     fn initial(alloc: Global, _plan: &Plan) -> Result<Vec<u64>, AllocError> {
         vec![in alloc; 0; WORD_COUNT]
     }
 
     fn turn_word(_plan: &Plan) -> usize {
         usize::from(turn_word().number())
+    }
+
+    fn clock(_plan: &Plan) -> Clock {
+        Clock::Counted
     }
 
     fn lock_word(_plan: &Plan, conn: Conn) -> usize {
@@ -128,4 +149,6 @@ impl OnWords<42, 19> for SharedOffices {
     }
 
     ghost are_scripts = { scripts_are };
+
+    ghost are_places = { λ _ _. are_word_places };
 }

@@ -172,6 +172,9 @@ module _ (plan : Tables) where
         → IsValidIn (office plan) a phase → HoldsFewIn plan a phase
         → HoldsFewIn plan (changed (office plan) a phase answer) (changed (office plan) a phase answer).phase
     holds_changed (Requests conn) (Asked told) at all valid holds = holds_at a (phases.Seizes conn told) holds
+    holds_changed (Requests conn) Seized at all valid holds =
+        let more : Attempt = record a { held = a.held ++ conn ∷ [] } in
+        holds_on more (walk_result (office plan) more) (holds_more conn valid holds)
     holds_changed (Requests conn) (Held holder) at all valid holds = tt
     holds_changed (Requests conn) (Preferred other) at all valid holds = tt
     holds_changed (phases.Seizes conn expected) Seized at all valid holds =
@@ -198,6 +201,9 @@ module _ (plan : Tables) where
     few_changed : (phase : Phase) (answer : Answer) → IsValidIn (office plan) a phase
         → HoldsFewIn plan a phase → length a.held ≤ most_held
         → length (changed (office plan) a phase answer).held ≤ most_held
+    few_changed (Requests conn) Seized valid holds few =
+        let more : Attempt = record a { held = a.held ++ conn ∷ [] } in
+        few_on more (walk_result (office plan) more) (few_held more (holds_more conn valid holds))
     few_changed (phases.Seizes conn expected) Seized valid holds few =
         let more : Attempt = record a { held = a.held ++ conn ∷ [] } in
         few_on more (walk_result (office plan) more) (few_held more (holds_more conn valid holds))

@@ -12,6 +12,7 @@ use Rattle.turns.proofs.Standing.{come_fits, wanted_lock}
 use Rattle.attempts.specs.WalkOnWords.{LeadsTo}
 use Rattle.attempts.specs.Validity as standing
 use Rattle.attempts.specs.Validity.{AreScripts, ResumePointIsValidIn, effects_left}
+use Rattle.turns.specs.declared.lock_sharing.LockSharing.TheVariants.{Preferring}
 use Rattle.attempts.specs.SystemWith.{without_decisions}
 use Rattle.attempts.proofs.Walking.{known_anywhere}
 use Rattle.xbar_equip.specs.Conn.{IsConn, conn_eq}
@@ -156,14 +157,14 @@ abbrev KnowsHere : Job → WalkProgress → Seen → Type 0
 KnowsHere job point seen = ResumePointIsValid (job_line job) point seen
 
 -- the jobs are scripts
-pub scripts_are : (plan : Tables) → IsLawful plan → AreScripts conn_eq reply_of effects_of (without_decisions (office_over plan)) KnowsHere most_readings most_seizings
+pub scripts_are : (plan : Tables) → IsLawful plan → AreScripts conn_eq reply_of effects_of (without_decisions Preferring (office_over plan)) KnowsHere most_readings most_seizings
 scripts_are plan laws = record {
   is_system = office_is plan laws;
   asks = (jobs_bounded plan laws).asks;
   stays_valid = λ job point seen more extends valid_point. known_on (job_line job) point seen more extends valid_point;
 }
 
-pub stands_here : (plan : Tables) (p : Doing) → IsValid plan (attempt_at p) → ResumePointIsValidIn KnowsHere (attempt_at p) p.point p.phase → standing.IsValid conn_eq reply_of effects_of (without_decisions (office_over plan)) KnowsHere most_readings most_seizings p
+pub stands_here : (plan : Tables) (p : Doing) → IsValid plan (attempt_at p) → ResumePointIsValidIn KnowsHere (attempt_at p) p.point p.phase → standing.IsValid conn_eq reply_of effects_of (without_decisions Preferring (office_over plan)) KnowsHere most_readings most_seizings p
 stands_here plan p valid valid_point = record { place = valid.place; point = valid_point }
 
 -- what a program that has just begun knows

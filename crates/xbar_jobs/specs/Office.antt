@@ -16,6 +16,7 @@ use Rattle.xbar_office.specs.declared.job.Job.{Job}
 use Rattle.xbar_office.specs.declared.reply.Reply.{Reply}
 use Rattle.turns.specs.Sharings.{preferring}
 use Rattle.turns.specs.System.{System, SystemOver, system_of}
+use Rattle.turns.specs.declared.clock.Clock.TheVariants.{Counted}
 use Rattle.xbar_jobs.specs.Closing.{IsDue, effects as effects_of, effect_word, operation_of}
 use Rattle.xbar_jobs.specs.Jobs.{first_conn, script}
 use Rattle.xbar_jobs.specs.declared.decision.Decision.{Decision}
@@ -72,6 +73,7 @@ office_over plan = record {
   lock_word = λ conn. word_number (ConnWord conn);
   sharing = preferring;
   turn_word = word_number TurnWord;
+  clock = Counted;
   Shows = ShowsOffice plan;
 }
 

@@ -4,6 +4,7 @@ use crate::office_effect::OfficeEffect;
 use crate::walk::{first_conn, next_in_row, walk};
 use crate::walk_progress::WalkProgress;
 use attempts::Scripts;
+use turns::LockSharing;
 use turns::laws::Family;
 use xbar_equip::Conn;
 use xbar_office::{Job, Reply};
@@ -23,6 +24,7 @@ impl Family for Offices {
 
 impl Scripts<42, 19> for Offices {
     ghost use Rattle.attempts.specs.SystemWith.{without_decisions};
+    ghost use Rattle.turns.specs.declared.lock_sharing.LockSharing.TheVariants.{Preferring};
     ghost use Rattle.xbar_plan.specs.Lawful.{IsLawful};
     ghost use Rattle.xbar_jobs.specs.Closing.{effects as effects_by};
     ghost use Rattle.xbar_jobs.specs.Jobs.{job_line};
@@ -43,7 +45,7 @@ impl Scripts<42, 19> for Offices {
 
     type ResumePoint = WalkProgress;
 
-    ghost system = { λ plan. without_decisions (office_over plan) };
+    ghost system = { λ plan. without_decisions Preferring (office_over plan) };
 
     ghost reply_of = { λ decision. decision.reply };
 
@@ -52,6 +54,10 @@ impl Scripts<42, 19> for Offices {
     ghost IsSetting = { IsLawful };
 
     ghost ResumePointIsValid = { λ _ job point seen. ResumePointIsValid (job_line job) point seen };
+
+    fn sharing(_plan: &Plan) -> LockSharing {
+        LockSharing::Preferring
+    }
 
     fn first(job: &Job) -> Conn {
         first_conn(job)

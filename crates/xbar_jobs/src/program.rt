@@ -1,6 +1,7 @@
 ghost use Rattle.std.specs.Prelude.{◌≡◌, ◌<◌, ◌≤◌, ◌⊎◌, is_some, length, option_copied, true};
 ghost use Rattle.attempts.specs.Validity.{AreScripts, ResumePointIsValidIn, IsValid as IsValidAttempt};
 ghost use Rattle.attempts.specs.SystemWith.{without_decisions};
+ghost use Rattle.turns.specs.declared.lock_sharing.LockSharing.TheVariants.{Preferring};
 ghost use Rattle.xbar_equip.specs.Conn.{conn_eq};
 ghost use Rattle.xbar_plan.specs.Lawful.{IsLawful};
 ghost use Rattle.xbar_jobs.specs.Attempt.{next_step, step_of as step_of_act};
@@ -63,9 +64,11 @@ fn may_go_on(attempt: &AttemptOf<Offices, 42, 19>, plan: &Plan)
         (attempt_at attempt.now) attempt.now.point attempt.now.phase }
     ensures lawful { IsLawful plan.now }
     ensures scripts { AreScripts conn_eq reply_of effects_of
-        (without_decisions (office_over plan.now))
-        (λ job point seen. ResumePointIsValid (job_line job) point seen) most_readings most_seizings }
-    ensures valid { IsValidAttempt conn_eq reply_of effects_of (without_decisions (office_over plan.now))
+        (without_decisions Preferring (office_over plan.now))
+        (λ job point seen. ResumePointIsValid (job_line job) point seen)
+        most_readings most_seizings }
+    ensures valid { IsValidAttempt conn_eq reply_of effects_of
+        (without_decisions Preferring (office_over plan.now))
         (λ job point seen. ResumePointIsValid (job_line job) point seen) most_readings most_seizings
         attempt.now }
 {

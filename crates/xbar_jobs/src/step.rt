@@ -6,7 +6,7 @@ ghost use Rattle.xbar_jobs.specs.Attempt.{Act, step_of};
 ghost use Rattle.xbar_jobs.specs.Turning.{IsStep};
 
 use turns::lock_word::{request_bit, seized_by};
-use turns::{Answer, Operation};
+use turns::{Answer, LockSharing, Operation};
 use xbar_equip::{Conn, WordNo, conn_word, turn_word};
 
 /// An atomic step: one operation on one word.
@@ -73,8 +73,10 @@ impl Step {
         ensures { result ≡ step_answer marker self.now found }
     {
         match self {
-            Step::Request(_) => Answer::to_request(marker, found),
-            Step::Seize(_, expected) => Answer::to_seizing(marker, *expected, found),
+            Step::Request(_) => Answer::to_request(LockSharing::Preferring, marker, found),
+            Step::Seize(_, expected) => {
+                Answer::to_seize(LockSharing::Preferring, marker, *expected, found)
+            }
             Step::Test(_) => Answer::Value(found),
             Step::Turn => Answer::Turn(found),
             Step::Withdraw(_)

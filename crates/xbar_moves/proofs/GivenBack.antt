@@ -1,13 +1,15 @@
 -- what a marker that gives back changes, and what it leaves as it was
 use Rattle.std.proofs.Common.{◌≡◌, ◌≢◌, ℕ, zero, suc, ◌+◌, ◌<◌, ◌≤◌, List, [], ◌∷◌, ◌++◌, append-nil, length, map, slice_index, inl, inr, refl, sym, ◌∙◌, ap, subst, arith}
-use Rattle.std.specs.Prelude.{⊤, slice_get}
+use Rattle.std.specs.Prelude.{⊤, Result, Ok, Err, slice_get}
 use Rattle.turns.specs.Among.{IsIn}
 use Rattle.turns.specs.Attempt as generic
-use Rattle.turns.specs.Attempt.{act, act_in, change, changed, forgotten, free_act, giving_back, request_in, rest_of, restarted, restarted_in}
+use Rattle.turns.specs.Attempt.{act, act_in, changed, forgotten, free_act, giving_back, goes_on, request_in, rest_of, restarted, restarted_in}
 use Rattle.turns.specs.World.{added_in, place}
 use Rattle.turns.specs.declared.answer.Answer.{Answer}
-use Rattle.turns.specs.declared.answer.Answer.TheVariants.{Asked, Held, Preferred, Done}
+use Rattle.turns.specs.declared.answer.Answer.TheVariants.{Asked, Seized, Held, Preferred, Done}
 use Rattle.turns.specs.declared.phase.Phase.TheVariants.{Requests, Seizes, Tests, Turns, Withdraws, GivesBack, Operates}
+use Rattle.turns.specs.declared.wanted.Wanted.{Wanted}
+use Rattle.turns.specs.declared.wanted.Wanted.TheVariants.{Seize, Test}
 use Rattle.turns.proofs.Lists.{index_other}
 use Rattle.xbar_equip.specs.Word.{ConnWord, word_number}
 use Rattle.xbar_equip.specs.declared.conn.Conn.{Conn}
@@ -16,6 +18,7 @@ use Rattle.xbar_plan.specs.Tables.{Tables}
 use Rattle.xbar_office.specs.declared.reply.Record.{Record}
 use Rattle.xbar_jobs.specs.Attempt.{Attempt, Phase}
 use Rattle.xbar_jobs.specs.Office.{office}
+use Rattle.xbar_jobs.specs.declared.decision.Decision.{Decision}
 use Rattle.xbar_jobs.specs.declared.effect.Effect.{Effect}
 use Rattle.xbar_moves.specs.AtWork.{answer_to_step, IsBackingAt, IsBackingIn}
 use Rattle.xbar_moves.specs.Exchange.{Exchange, turned}
@@ -119,6 +122,11 @@ module _ (plan : Tables) where
   anew_job a GivesBack = refl
   anew_job a (Operates turn) = refl
 
+  goes_job : (a : Attempt) (to : Result Decision (Wanted Conn ℕ)) → (goes_on (office plan) a to).job ≡ a.job
+  goes_job a (Ok decision) = refl
+  goes_job a (Err (Seize conn)) = refl
+  goes_job a (Err (Test word)) = refl
+
   -- and stays at it on its way back
   back_job : (a : Attempt) (phase : Phase) (answer : Answer) → IsBackingIn a phase → (changed (office plan) a phase answer).job ≡ a.job
   back_job a (Seizes conn expected) answer backs = absurd backs
@@ -126,6 +134,7 @@ module _ (plan : Tables) where
   back_job a Turns answer backs = absurd backs
   back_job a (Operates turn) answer backs = absurd backs
   back_job a (Requests conn) (Asked word) backs = refl
+  back_job a (Requests conn) Seized backs = goes_job (record a { held = a.held ++ conn ∷ [] }) _
   back_job a (Requests conn) (Held holder) backs = refl
   back_job a (Requests conn) (Preferred other) backs = refl
   back_job a (Withdraws conn) Done backs = freed_job a a.held

@@ -34,6 +34,8 @@ module _ (plan : Tables) where
   -- whatever the answer and the phase
   kept_in : (a : Attempt) (phase : Phase) (answer : Answer) (conn : Conn) → IsIn conn a.held → act_in phase a ≢ Free conn → IsIn conn (changed (office plan) a phase answer).held
   kept_in a (Requests asked) (Asked word) conn within other = within
+  kept_in a (Requests asked) Seized conn within other =
+      kept_on (record a { held = a.held ++ asked ∷ [] }) conn (in_front conn a.held (asked ∷ []) within)
   kept_in a (Requests asked) (Held holder) conn within other = within
   kept_in a (Requests asked) (Preferred marker) conn within other = within
   kept_in a (Seizes asked expected) Seized conn within other =

@@ -1,6 +1,7 @@
 //! The bank's accounts as plain data behind locks.
 
-use super::laden::{Laden, work};
+use super::with_work::{BankWithWork, work};
+use crate::timing::sum;
 use bank::SHARD_SIZE;
 use crossbeam_utils::CachePadded;
 use std::alloc::{AllocError, Global};
@@ -8,13 +9,6 @@ use std::sync::{Mutex, Wait};
 
 /// The number of accounts of a shard.
 const SIZE: usize = SHARD_SIZE as usize;
-
-/// The sum of balances.
-fn sum_of(balances: &[u64]) -> u64 {
-    balances
-        .iter()
-        .fold(0, |sum: u64, balance| sum.saturating_add(*balance))
-}
 
 /// Two balances after 1 was moved from the first to the second, if the first had it and the second
 /// had room.
@@ -37,8 +31,8 @@ pub struct Ledger {
 
 impl Ledger {
     /// The accounts of a bank.
-    pub fn open(alloc: Global, laden: &Laden) -> Result<Ledger, AllocError> {
-        let Laden { opening, rounds } = *laden;
+    pub fn open(alloc: Global, bank: &BankWithWork) -> Result<Ledger, AllocError> {
+        let BankWithWork { opening, rounds } = *bank;
         let balances = vec![in alloc; opening.balance; opening.account_count()]?;
         Ok(Ledger {
             balances,
@@ -62,7 +56,7 @@ impl Ledger {
 
     /// The sum of all balances.
     pub fn sum(&self) -> u64 {
-        sum_of(&self.balances)
+        sum(&self.balances)
     }
 }
 
@@ -94,8 +88,8 @@ pub struct Shards {
 
 impl Shards {
     /// The accounts of a bank.
-    pub fn open(alloc: Global, laden: &Laden) -> Result<Shards, AllocError> {
-        let Laden { opening, rounds } = *laden;
+    pub fn open(alloc: Global, bank: &BankWithWork) -> Result<Shards, AllocError> {
+        let BankWithWork { opening, rounds } = *bank;
         let mut shards = Vec::new(alloc);
         for _shard in 0..opening.shards {
             let balances = [opening.balance; SIZE];
@@ -127,10 +121,10 @@ impl Shards {
 
     /// The sum of all balances.
     pub fn sum<R: Wait>(&self, rt: &R) -> u64 {
-        let mut sum: u64 = 0;
+        let mut all: u64 = 0;
         for shard in &self.shards {
-            sum = sum.saturating_add(sum_of(&shard.lock(rt).balances));
+            all = all.saturating_add(sum(&shard.lock(rt).balances));
         }
-        sum
+        all
     }
 }

@@ -1,6 +1,7 @@
 //! The state of a marker at work.
 
 use crate::timing::Tally;
+use workers::Pausing;
 use xbar_equip::Len;
 use xbar_office::Job;
 
@@ -14,6 +15,8 @@ pub struct State {
     pub tally: Tally,
     /// The number of steps since the marker last ended a job or gave back.
     waited: u64,
+    /// How often the marker was denied a connector since it last ended a job.
+    denials: u64,
 }
 
 impl State {
@@ -37,6 +40,15 @@ impl State {
         if has_ended || gives_up {
             self.waited = 0;
         }
+        if has_ended {
+            self.denials = 0;
+        }
         gives_up
+    }
+
+    /// Waits once the marker was denied a connector and has given back all.
+    pub fn wait(&mut self) {
+        self.denials = self.denials.saturating_add(1);
+        Pausing::LONG.pause(self.denials);
     }
 }

@@ -1,7 +1,8 @@
 //! A large replay, and a text of many records.
 
 use super::*;
-use crossbar5::{Look, Status, Task, answer_task, run_replay};
+use crossbar5::{PlanSource, Status, do_task, run_replay};
+use crossbar5_task::{DrawForm, Task};
 use std::test::Fail;
 use test_tools::{check, check_eq};
 use xbar_core::Kind;
@@ -77,17 +78,11 @@ fn records(alloc: Global) -> Result<String, AllocError> {
 
 /// A task on these records, the end of its output, and the number of records that the output
 /// shows.
-const OF_MANY_RECORDS: &[(Task<'static>, &str, usize)] = &[
+const OF_MANY_RECORDS: &[(Task, &str, usize)] = &[
     (Task::Audit, "AUDIT,LEGAL,150\nPATHS,0\nCLOSED,0\n", 0),
-    (Task::Draw { look: Look::Text }, "No path is up.\n", 0),
-    (
-        Task::Draw {
-            look: Look::Drawing,
-        },
-        "</svg>\n",
-        0,
-    ),
-    (Task::Draw { look: Look::Page }, "</html>\n", 150),
+    (Task::Draw(DrawForm::Text), "No path is up.\n", 0),
+    (Task::Draw(DrawForm::Svg), "</svg>\n", 0),
+    (Task::Draw(DrawForm::Page), "</html>\n", 150),
 ];
 
 #[test]
@@ -95,10 +90,9 @@ fn many_records_are_audited_and_drawn(rt: HostRuntime) -> Result<(), Fail> {
     let input = records(rt.alloc())?;
     for (task, end, shown) in OF_MANY_RECORDS {
         let mut source = Counted::new(input.as_bytes());
-        let mut sink = Counted::new(Vec::new(rt.alloc()));
-        let plan = EXAMPLE.as_bytes();
-        let answer = answer_task(rt.alloc(), *task, plan, &mut source, &mut sink)?;
-        let text = str::from_utf8(sink.get_ref()).unwrap_or("this is no text");
+        let plan = PlanSource::Text(EXAMPLE.as_bytes());
+        let answer = do_task(rt.alloc(), *task, plan, &[], &mut source)?;
+        let text = str::from_utf8(&answer.text).unwrap_or("this is no text");
         check_eq!(rt; answer.status, Status::Fine, end);
         check!(rt; text.ends_with(*end), "{end}");
         check_eq!(rt; text.matches(",NOCALL,").count(), *shown, end);

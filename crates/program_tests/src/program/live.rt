@@ -1,7 +1,7 @@
 //! Calls that compete: the outcome is right, whichever comes first.
 
 use super::*;
-use crossbar5::{EngineFault, Status};
+use crossbar5::{EngineFault, PlanSource, Status};
 use crossbar5_live::{open_gates, run_live};
 use std::test::Fail;
 use test_tools::{check, check_eq};
@@ -58,7 +58,7 @@ fn done<T: Threads + Wait + Sync>(
     let status = run_live(
         threads,
         alloc,
-        EXAMPLE.as_bytes(),
+        PlanSource::Text(EXAMPLE.as_bytes()),
         of_each,
         of_each,
         gates,

@@ -4,4 +4,4 @@ use Rattle.crossbar5_cli.proofs.asked.do_as_asked.Goals as goal
 
 pub returns-in-Ok-clause-ends : goal.returns-in-Ok-clause-ends
 returns-in-Ok-clause-ends g c =
-    with_kinds _ _ _ _ c.deref.result c.file_of.result c.work_of.result (search rules) c.file_of.ensures c.work_of.ensures.work c.perform.ensures.ends
+    with_kinds c.args.ask.now _ _ _ c.deref.result.now c.file_of.result (search rules) c.file_of.ensures c.perform.ensures.ends

@@ -1,7 +1,7 @@
 use Rattle.std.proofs.Common.{◌∙◌, ap, arith, length, sym}
 use Rattle.slots.specs.Few.{list_of}
 use Rattle.slots.specs.System.{slots}
-use Rattle.workers.specs.Tries.{AnswersYielding}
+use Rattle.workers.specs.Tries.{AnswersPausing, PatiencePausing}
 use Rattle.workers.proofs.Logs.{logged_last}
 use Rattle.workers.proofs.Trying.{logged_free, logged_stuck}
 use Rattle.slot_desks.proofs.Rounds.{logged_slots}
@@ -32,11 +32,11 @@ pub returns-clause-free : goal.returns-clause-free
 returns-clause-free c = λ free.
     let old = c.args.shift.now in
     let new = c.work.new.self in
-    logged_free slots AnswersYielding old.desk new.desk c.args.number c.args.job _ old.log.items new.log.items c.work.result free c.if-not-work.false c.work.ensures.logged
+    logged_free slots AnswersPausing PatiencePausing old.desk new.desk c.args.number c.args.job _ old.log.items new.log.items c.work.result free c.if-not-work.false c.work.ensures.logged
 
 pub returns-then-not-work-clause-stuck : goal.returns-then-not-work-clause-stuck
 returns-then-not-work-clause-stuck c = λ free.
     let old = c.args.shift.now in
     let new = c.work.new.self in
-    logged_stuck slots AnswersYielding old.desk new.desk c.args.number c.args.job _ _ _ old.log.items new.log.items c.work.result free c.if-not-work.true
+    logged_stuck slots AnswersPausing PatiencePausing old.desk new.desk c.args.number c.args.job _ _ _ old.log.items new.log.items c.work.result free c.if-not-work.true
     (λ same none. let lens = ap length same in let full = none.0 in let room = none.1 in omega (arith, lens, full, room, old.log.ok.0, new.log.ok.0)) c.work.ensures.logged

@@ -1,16 +1,15 @@
-use Rattle.std.proofs.Common.{rules, arith, ◌≡◌, ◌==◌, ◌%◌, ◌*◌, false, sym}
-use Rattle.std.specs.Int.{bit_at}
+use Rattle.std.proofs.Common.{◌≡◌, ℕ, ◌+◌, ◌*◌, ◌≤◌, ◌<◌, Some, None, sym, subst, arith}
+use Rattle.slots.specs.System.{free_in}
 use Rattle.slots.specs.declared.bank.TheConstants.{BANK_SIZE}
-use Rattle.slots.proofs.FreeSlots.{lowest_is, lowest_none}
+use Rattle.slots.proofs.SlotBits.{zero_free, zero_none}
 use Rattle.slots.proofs.bank.lowest_free.Goals as goal
 
-pub returns-then-is_free-clause-free : goal.returns-then-is_free-clause-free
-returns-then-is_free-clause-free c =
-    let slot = c.loop-slot.slot in
-    let free : (bit_at c.args.word (slot % BANK_SIZE) == 1) ≡ false = search rules in
-    sym (lowest_is (λ s. bit_at c.args.word (s % BANK_SIZE) == 1) (BANK_SIZE * c.args.bank) BANK_SIZE slot (omega arith) (omega arith) c.loop-slot.invariant free)
+pub returns-then-taken-lt-BANK_SIZE-clause-free : goal.returns-then-taken-lt-BANK_SIZE-clause-free
+returns-then-taken-lt-BANK_SIZE-clause-free c =
+    subst (λ (taken : ℕ). taken < BANK_SIZE → Some (BANK_SIZE * c.args.bank + taken) ≡ free_in c.args.bank c.args.word) (sym c.trailing_ones-taken.ensures)
+    (λ few. sym (zero_free c.args.bank c.args.word c.requires few)) (omega (arith, c.if-taken-lt-BANK_SIZE.true))
 
-pub returns-clause-free : goal.returns-clause-free
-returns-clause-free c =
-    let all = c.loop-slot.invariant in
-    sym (lowest_none (λ s. bit_at c.args.word (s % BANK_SIZE) == 1) (BANK_SIZE * c.args.bank) BANK_SIZE (λ s low high. all s low (omega arith)))
+pub returns-else-taken-lt-BANK_SIZE-clause-free : goal.returns-else-taken-lt-BANK_SIZE-clause-free
+returns-else-taken-lt-BANK_SIZE-clause-free c =
+    subst (λ (taken : ℕ). BANK_SIZE ≤ taken → None ≡ free_in c.args.bank c.args.word) (sym c.trailing_ones-taken.ensures)
+    (λ all. sym (zero_none c.args.bank c.args.word c.requires all)) (omega (arith, c.if-taken-lt-BANK_SIZE.false))

@@ -14,5 +14,5 @@ invariant-loop-made g l =
       desk : IsDeskOf l.desk l.room l.setting;
       finished : HasFinished O l.fn.desk l.desk None;
       busy : is_available O l.desk.actor ≡ false;
-      in_vain : (made : ℕ) × (l.made ≡ suc made) × HasTriedInVain O (g.B.BackOff.Answers l.back_off) made l.fn.desk l.desk;
+      in_vain : (made : ℕ) × (l.made ≡ suc made) × HasTriedInVain O (g.B.BackOff.Answers l.back_off) l.patience made l.fn.desk l.desk;
     }

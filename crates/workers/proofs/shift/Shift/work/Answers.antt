@@ -33,5 +33,5 @@ returns-clause-logged g c =
     let begins : begun ≡ record desk { actor = Does c.args.number (begin O c.args.job) } = subst (λ s. begun ≡ record desk { actor = assigned_if (system_of (g.F.Jobs.system s)) true c.args.number c.args.job desk.actor }) is (subst (λ b. begun ≡ record desk { actor = assigned_if (system_of (g.F.Jobs.system desk.setting)) b c.args.number c.args.job desk.actor }) c.if-not-assign.false c.assign.ensures.assigned) in
     let free = subst (λ s. is_available (system_of (g.F.Jobs.system s)) desk.actor ≡ true) is taken in
     let room : vec_len c.reserve.new.self + 1 ≤ vec_capacity c.reserve.new.self = on_ok c.reserve.result _ (sym c.is_err.ensures.value ∙ c.if-is_err.false) c.reserve.ensures.ok in
-    logged_done O (g.B.BackOff.Answers c.args.back_off.now) desk begun after.desk c.args.number c.args.job _ _ shift.log.items c.reserve.new.self.items after.log.items c.go_on.result free begins
+    logged_done O (g.B.BackOff.Answers c.args.back_off.now) (g.B.BackOff.Patience c.args.back_off.now) desk begun after.desk c.args.number c.args.job _ _ shift.log.items c.reserve.new.self.items after.log.items c.go_on.result free begins
     (λ none. let full = none.0 in absurd (omega (arith, room, full))) c.reserve.ensures.items c.go_on.ensures.logged

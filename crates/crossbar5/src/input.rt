@@ -1,0 +1,95 @@
+//! The input of the engine: a plan, and all that a source gives.
+
+ghost use Rattle.std.specs.Prelude.{◌≡◌, ◌≢◌, Err, IfErr, IfOk, OnOk};
+ghost use Rattle.std.specs.Io.KnownBytes.{IsAtEnd};
+ghost use Rattle.counted_io.specs.Counts.{HasFailed, ReadsUsedUp};
+ghost use Rattle.crossbar5.specs.Input.{IsInputOf, ShowsPlaceIfRefused};
+ghost use Rattle.crossbar5.specs.PlanPlaces.{ShowsPlaceIn};
+ghost use Rattle.crossbar5.specs.PlanRefusal.{IsPlanRefusal, IsRefusedPlan, plan_fault_line, plan_in};
+ghost use Rattle.crossbar5.specs.Refusal.{ReportsFaultOf};
+
+use crate::diagnostic::Diagnostic;
+use crate::engine_fault::EngineFault;
+use crate::plan_source::PlanSource;
+use crate::status::Status;
+use crate::written::Written;
+use counted_io::{Source, read_all};
+use std::alloc::{AllocError, Global};
+use xbar_diagnostics::{PlanDiagnostic, plan_diagnostic};
+use xbar_plan::{Plan, PlanFault};
+
+/// A plan with the bytes of the input, or what is written for a plan that is refused.
+#[derive(Drop)]
+pub enum Input {
+    Read { plan: Plan, bytes: Vec<u8> },
+    Refused(Written),
+}
+
+/// What is written for a refused plan. Running out of memory is the engine's fault instead.
+fn refuse_plan(
+    alloc: Global,
+    plan: PlanSource<'_>,
+    fault: PlanFault,
+) -> Result<Written, EngineFault>
+    ensures written { IfOk result (λ written. (fault ≢ PlanFault.Memory) ×
+        IsPlanRefusal fault written.text.items written.status) }
+    ensures place { IfOk result (λ written. ShowsPlaceIn plan.entry written.diagnostic) }
+    ensures why { IfErr result (λ why. why ≡ EngineFault.Memory) }
+{
+    if fault == PlanFault::Memory {
+        return Err(EngineFault::Memory);
+    }
+    Ok(Written {
+        text: format!(in alloc; "FAULT,{fault}\n")?.into_bytes(),
+        status: Status::PlanRefused,
+        diagnostic: diagnostic_of(alloc, plan, fault),
+    })
+}
+
+/// The diagnostic of a plan refused for this fault. It has no place if none is found.
+fn diagnostic_of(
+    alloc: Global,
+    plan: PlanSource<'_>,
+    fault: PlanFault,
+) -> Result<Option<Diagnostic>, AllocError>
+    ensures reports { ReportsFaultOf result (plan_fault_line fault) Status.PlanRefused }
+    ensures place { ShowsPlaceIn plan.entry result }
+{
+    let found = match plan {
+        PlanSource::Example => None,
+        PlanSource::Text(text) => plan_diagnostic(alloc, text, fault)?,
+    };
+    let diagnostic = match found {
+        Some(diagnostic) => diagnostic,
+        None => PlanDiagnostic::without_place(alloc, fault)?,
+    };
+    Ok(Some(Diagnostic::Plan(diagnostic)))
+}
+
+/// Reads the plan and then the input to its end. If the plan is refused, the source
+/// is left unread.
+pub fn read_input<R: Source>(
+    alloc: Global,
+    plan: PlanSource<'_>,
+    source: &mut R,
+) -> Result<Input, EngineFault>
+    ensures input { IfOk result (IsInputOf (plan_in plan.entry) (R.remaining source.old)) }
+    ensures place { IfOk result (ShowsPlaceIfRefused plan.entry) }
+    ensures markers { result ≢ Err EngineFault.Markers }
+    ensures device { result ≡ Err EngineFault.Device
+        → HasFailed (R.failure_count source.old) (R.failure_count source.new) }
+    ensures no_failure { result ≢ Err EngineFault.Device
+        → R.failure_count source.new ≡ R.failure_count source.old }
+    ensures long { result ≡ Err EngineFault.Long →
+        ReadsUsedUp (R.read_count source.old) (R.read_count source.new) }
+    ensures unread { IsRefusedPlan (plan_in plan.entry) → source.new ≡ source.old }
+    ensures end { OnOk result (¬ IsRefusedPlan (plan_in plan.entry) → IsAtEnd (R.remaining source.new)) }
+{
+    match plan.read(alloc) {
+        Ok(plan) => {
+            let bytes = read_all(alloc, source)?;
+            Ok(Input::Read { plan, bytes })
+        }
+        Err(fault) => Ok(Input::Refused(refuse_plan(alloc, plan, fault)?)),
+    }
+}

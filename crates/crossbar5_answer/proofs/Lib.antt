@@ -1,2 +1,0 @@
-pub mod PlanRefusals
-pub mod KindLetters

@@ -1,7 +1,0 @@
-use Rattle.crossbar5_answer.proofs.PlanRefusals.{refused_input}
-use Rattle.crossbar5_live.specs.Live.{IsLiveUnder}
-use Rattle.crossbar5_live.proofs.answer.do_live.Goals as goal
-
-pub returns-in-Refused-clause-live : goal.returns-in-Refused-clause-live
-returns-in-Refused-clause-live g c =
-    refused_input (λ tables. IsLiveUnder tables c.args.dialling c.args.completing) (g.R.Read.remaining c.args.source.now) c.args.plan.now c.in_ok-plan.field-0 c.in-Refused.written c.in-Refused.is c.in_ok-plan.ensures.input
