@@ -2,8 +2,9 @@
 """A model of `draw`, `draw --text` and `page`, after docs/FORMATS.md and the definitions of the crates svg, xbar_picture,
 xbar_office_text, xbar_office_drawing and xbar_page. It trusts the records (no audit), reads them and a plan, and replays the set of paths by
 what the records tell: a path that comes is put into the order of lines, one that is taken out goes, and a completing job gives its register back.
+The page's script it takes from bin/page_script.
 Usage: drawing_model.py text|svg|page PLAN < RECORDS"""
-import sys, tomllib
+import os, subprocess, sys, tomllib
 
 # ---- the plan
 class Plan:
@@ -316,39 +317,10 @@ PAGE_STYLE = (
 "@media(prefers-reduced-motion:no-preference){.new path{animation:lit .5s ease-out}@keyframes lit{from{opacity:0}}}")
 PLAIN_STYLE = ("section:target,section:last-of-type,[data-from]{display:block}section:target~section:last-of-type,[data-until]{display:none}"
 "section nav{display:flex;gap:8px;margin-bottom:8px}")
-SCRIPT = (
-"(()=>{const get=id=>document.getElementById(id),all=query=>[...document.querySelectorAll(query)];"
-"const sections=all('section'),links=all('#turns a'),last=sections.length-1;"
-"const places=new Map(sections.map((section,place)=>['#'+section.id,place]));"
-"const paths=all('[data-from]').map(group=>({group,from:+group.dataset.from,until:+(group.dataset.until||Infinity)}));let lit=[];"
-"const slider=get('at'),told=get('told'),play=get('play'),list=get('list'),speed=get('speed'),count=get('count');let now=0,timer=0;"
-"const align=(name,taken,isNew)=>{const line=name.classList.contains('line'),row=(line?'l':'t')+name.getAttribute('y');"
-"const from=taken.get(row)||0,to=from+(line?46:114)*(isNew?1.3:1);taken.set(row,to);name.setAttribute('x',line?204-from:1260+from);"
-"name.style.display=to>(line?174:304)?'none':'';};"
-"const show=place=>{const turn=place-1,taken=new Map();"
-"lit.forEach(path=>path.group.classList.remove('stands','new'));"
-"lit=paths.filter(path=>path.from>turn?false:path.until>turn).sort((a,b)=>(b.from===turn)-(a.from===turn));"
-"lit.forEach(path=>{path.group.classList.add('stands');if(path.from===turn)path.group.classList.add('new');"
-"path.group.querySelectorAll('text').forEach(name=>align(name,taken,path.from===turn));});"
-"count.textContent='paths: '+lit.length+', crosspoints closed: '+4*lit.length;"
-"sections[now].classList.remove('now');sections[place].classList.add('now');"
-"links[now].removeAttribute('aria-current');links[place].setAttribute('aria-current','true');"
-"if(list.open)get('turns').scrollTop=links[place].parentNode.offsetTop-get('turns').offsetTop-60;"
-"now=place;slider.value=place;slider.setAttribute('aria-valuetext',sections[place].querySelector('h2').textContent);"
-"told.textContent=place?'turn '+(place-1)+', last '+(last-1):'start';if(!timer)get('status').textContent=sections[place].querySelector('h2').textContent;};"
-"const go=place=>{stop();const to=Math.max(0,Math.min(last,place));history.replaceState(null,'','#'+sections[to].id);show(to);};"
-"const stop=()=>{clearInterval(timer);timer=0;play.textContent='play';play.setAttribute('aria-pressed','false');};"
-"const step=()=>show(now===last?0:now+1);"
-"const start=()=>{clearInterval(timer);timer=setInterval(step,1000*speed.value);play.textContent='stop';play.setAttribute('aria-pressed','true');};"
-"const follow=()=>{if(location.hash==='#play'){show(0);start();return;}stop();show(places.get(location.hash)||0);};"
-"get('first').onclick=()=>go(0);get('before').onclick=()=>go(now-1);get('after').onclick=()=>go(now+1);get('final').onclick=()=>go(last);"
-"play.onclick=()=>{if(timer){go(now);}else{history.replaceState(null,'','#play');start();}};"
-"speed.onchange=()=>{if(timer)start();};slider.oninput=()=>go(+slider.value);"
-"const keys={ArrowLeft:()=>now-1,ArrowRight:()=>now+1,Home:()=>0,End:()=>last};"
-"addEventListener('keydown',event=>{const to=keys[event.key];"
-"if(!to||event.altKey||event.ctrlKey||event.metaKey||event.shiftKey||event.target===slider||event.target===speed)return;"
-"go(to());event.preventDefault();});"
-"list.open=innerWidth>1099;slider.max=last;get('controls').hidden=false;addEventListener('hashchange',follow);follow();})();")
+def script():
+    """the page's script, packed from its source: it is the same on every page, and the model has none of its own"""
+    words = [os.path.join(os.path.dirname(os.path.realpath(__file__)), "../bin/page_script"), "--print"]
+    return subprocess.run(words, stdout=subprocess.PIPE, text=True, check=True).stdout
 
 def link(rel, to, label): return f'<a rel="{rel}" href="#{"start" if to is None else f"turn{to}"}">{label}</a>\n'
 def no_link(label): return f"<span>{label}</span>\n"
@@ -426,7 +398,7 @@ def page(plan, records):
     now = [p for p, k, until in stays(plan, records) if until is None]
     o += shapes() + f'<text x="16" y="30" class="big" id="count">paths: {len(now)}, crosspoints closed: {4 * len(now)}</text>\n' + office(plan)
     o += "".join(stay(plan, *s) for s in stays(plan, records)) + "</svg>\n</div>\n"
-    return o + "</main>\n<script>" + SCRIPT + "</script>\n</body>\n</html>\n"
+    return o + "</main>\n<script>" + script() + "</script>\n</body>\n</html>\n"
 
 MAKE = {"text": text, "svg": svg, "page": page}
 if __name__ == "__main__":
