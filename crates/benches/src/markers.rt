@@ -8,7 +8,7 @@ use std::alloc::Global;
 use std::io;
 use std::rt::Clock;
 use std::time::Instant;
-use xbar_core::{Event, Exchange, Kind};
+use xbar_core::{Event, Exchange, Kind, Kinds};
 use xbar_equip::{Dialled, Len};
 use xbar_office::Job;
 use xbar_plan::Plan;
@@ -73,7 +73,10 @@ pub fn work(alloc: Global, plan: &Plan, markers: u32, jobs: u64) -> Tally
 {
     let kinds = [Kind::Combined; 10];
     let mut progress = Progress::default();
-    let Ok(mut office) = Exchange::open(alloc, plan, &kinds[..markers as usize]) else {
+    let Some(kinds) = Kinds::new(&kinds[..markers as usize]) else {
+        return progress.done;
+    };
+    let Ok(mut office) = Exchange::open(alloc, plan, &kinds) else {
         return progress.done;
     };
     for number in 0..ROTATIONS {

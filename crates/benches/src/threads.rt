@@ -20,7 +20,7 @@ use std::time::Instant;
 use std::{io, thread};
 use xbar_core::{Event, Exchange};
 use xbar_equip::WORD_COUNT;
-use xbar_fabric::{Answer, Desk, Fabric, Kind};
+use xbar_fabric::{Answer, Desk, Fabric, Kind, Kinds};
 use xbar_plan::Plan;
 
 /// Markers to run, each on a thread of its own: the plan of their office, their kinds, and the
@@ -28,7 +28,7 @@ use xbar_plan::Plan;
 #[derive(Drop)]
 struct Crew<'a> {
     plan: &'a Plan,
-    kinds: &'a [Kind],
+    kinds: &'a Kinds,
     times: u32,
 }
 
@@ -122,7 +122,7 @@ fn work_at_whole_jobs<R: Threads + Wait + Sync>(
     let tallies = thread::map_indices(
         rt,
         alloc,
-        crew.kinds.len(),
+        crew.kinds.as_slice().len(),
         &|marker: usize| -> Tally { work_whole(rt, plan, &words, (marker % 10) as u32, jobs) },
     )?;
     Ok(Tally::of_all(&tallies))
@@ -186,7 +186,7 @@ fn work_behind_lock<R: Threads + Wait + Sync>(
     let tallies = thread::map_indices(
         rt,
         alloc,
-        crew.kinds.len(),
+        crew.kinds.as_slice().len(),
         &|marker: usize| -> Tally { work_locked(rt, &office, marker as u32, times) },
     )?;
     Ok(Tally::of_all(&tallies))
@@ -205,8 +205,14 @@ pub fn measure<R: Eprint + Clock + Threads + Wait + Sync>(
     let times = thousands * 1000;
     let kinds = [Kind::Combined; 4];
     for count in [1_u32, 2, 4] {
-        let kinds = &kinds[..count as usize];
-        let crew = Crew { plan, kinds, times };
+        let Some(kinds) = Kinds::new(&kinds[..count as usize]) else {
+            continue;
+        };
+        let crew = Crew {
+            plan,
+            kinds: &kinds,
+            times,
+        };
         let start = Instant::now(rt)?;
         let done = work_at_desks(rt, alloc, &crew)?;
         let (step, job) = done.paces(start.elapsed(rt)?, count);

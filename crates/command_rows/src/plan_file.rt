@@ -1,6 +1,5 @@
 use crossbar5::Counted;
-use crossbar5_cli::System;
-use crossbar5_command::Work;
+use crossbar5_cli::{CheckedWork, System};
 use std::io;
 
 /// The system's error number for a file that doesn't exist.
@@ -22,7 +21,7 @@ impl<'p> System for PlanFile<'p> {
         }
     }
 
-    fn begin(&self, _work: &Work) {}
+    fn begin(&self, _work: &CheckedWork) {}
 
     fn end(&self) {}
 }

@@ -1,63 +1,85 @@
--- the events of a row are a list of objects, each after a comma
+-- the events of rows are a list of objects, each after a comma
 use Rattle.std.proofs.Common.{◌≡◌, ◌≢◌, drop, ℕ, List, [], ◌∷◌, ◌++◌, inl, inr, refl, sym, ◌∙◌, ap, subst}
 use Rattle.std.specs.Prelude.{flat_map, replicate}
+use Rattle.std.proofs.lemmas.Grind.{flat_map-append}
 use Rattle.xbar_plan.specs.Tables.{Tables}
 use Rattle.xbar_moves.specs.Exchange.{Exchange, OfPlan}
 use Rattle.xbar_traffic.specs.declared.row.Row.{Row}
 use Rattle.xbar_traffic.specs.declared.row.Row.TheVariants as row
 use Rattle.xbar_walk.specs.Items.{Item, assignment_item, item_lines, step_item, walk_text_of}
+use Rattle.xbar_walk.specs.Observers.{ChangesAs}
 use Rattle.xbar_walk.specs.Runs.{Made, made_by, made_items}
-use Rattle.xbar_walk.specs.Stories.{ChangesAs, IsStory}
+use Rattle.xbar_walk.specs.Stories.{IsStory}
 use Rattle.xbar_walk.specs.Walks.{Walk}
 use Rattle.xbar_walk.specs.declared.detail.Detail.{Detail}
-use Rattle.xbar_walk.specs.declared.story.Story.{Story}
 use Rattle.xbar_walk.specs.declared.detail.Detail.TheVariants.{JsonList}
+use Rattle.xbar_walk.specs.declared.story.Story.{Story}
 use Rattle.xbar_walk.proofs.Joining.{each_alone}
 use Rattle.xbar_walk.proofs.TellingRuns.{run_detail, run_items, steps_are_run}
 use Rattle.crossbar5.specs.Look.{BeginsWithComma}
-use Rattle.crossbar5.specs.Walk.{begun_at, walk_after_row}
+use Rattle.crossbar5.specs.Walk.{begun_at, walk_after_row, walk_after_rows}
 
 made_begin : (number : ℕ) (made : List Made) → BeginsWithComma (flat_map item_lines (made_items JsonList number made))
 unfolding made_items step_item item_lines
 made_begin number [] = inl refl
 made_begin number (made ∷ later) = inr (_, refl)
 
--- items whose lines begin so make a text that does
-by_items : (items : List Item) → BeginsWithComma (flat_map item_lines items) → BeginsWithComma (walk_text_of JsonList items)
-by_items items begins = subst BeginsWithComma (sym (each_alone JsonList items refl)) begins
+-- the items of a walk are such objects
+record IsList (w : Walk) : Type 0 where
+  detail : w.detail ≡ JsonList
+  begins : BeginsWithComma (flat_map item_lines w.items)
 
-steps_begin : (plan : Tables) (e : Exchange) (k count : ℕ) → BeginsWithComma (walk_text_of JsonList (walk_after_row (row.Steps k count) (begun_at JsonList plan e)).items)
-unfolding walk_after_row
-steps_begin plan e k count =
-    let w = begun_at JsonList plan e in
-    let same = ap (λ (walk : Walk). walk.items) (steps_are_run k count w) ∙ run_items (replicate count k) w in
-    subst (λ (items : List Item). BeginsWithComma (walk_text_of JsonList items)) (sym same)
-    (by_items (made_items JsonList 0 (made_by plan (replicate count k) e)) (made_begin 0 (made_by plan (replicate count k) e)))
+either_begins : (one other : List ℕ) → BeginsWithComma one → BeginsWithComma other → BeginsWithComma (one ++ other)
+either_begins one other (inl none) begins = subst (λ (lines : List ℕ). BeginsWithComma (lines ++ other)) (sym none) begins
+either_begins one other (inr (rest, is)) begins = inr (rest ++ other, ap (λ (lines : List ℕ). lines ++ other) is)
 
-pub row_begins : (plan : Tables) (e : Exchange) (row : Row) → BeginsWithComma (walk_text_of JsonList (walk_after_row row (begun_at JsonList plan e)).items)
+both_begin : (items more : List Item) → BeginsWithComma (flat_map item_lines items) → BeginsWithComma (flat_map item_lines more) → BeginsWithComma (flat_map item_lines (items ++ more))
+both_begin items more one other =
+    subst BeginsWithComma (sym (flat_map-append item_lines items more)) (either_begins (flat_map item_lines items) (flat_map item_lines more) one other)
+
+row_list : (row : Row) (w : Walk) → IsList w → IsList (walk_after_row row w)
 unfolding walk_after_row assignment_item item_lines
-row_begins plan e (row.Assign marker job_no job) = by_items (assignment_item JsonList marker job_no job ∷ []) (inr (_, refl))
-row_begins plan e (row.Steps marker count) = steps_begin plan e marker count
-row_begins plan e (row.Call call_no line dialled release) = by_items [] (inl refl)
+row_list (row.Assign marker job_no job) w list = record {
+  detail = list.detail;
+  begins =
+      both_begin w.items (assignment_item w.detail marker job_no job ∷ []) list.begins
+      (subst (λ (d : Detail). BeginsWithComma (flat_map item_lines (assignment_item d marker job_no job ∷ []))) (sym list.detail) (inr (_, refl)));
+}
+row_list (row.Steps marker count) w list =
+    let ks = replicate count marker in
+    let made = made_by w.office.plan ks w.office.exchange in
+    record {
+      detail = ap (λ (x : Walk). x.detail) (steps_are_run marker count w) ∙ run_detail ks w ∙ list.detail;
+      begins =
+          subst (λ (items : List Item). BeginsWithComma (flat_map item_lines items)) (sym (ap (λ (x : Walk). x.items) (steps_are_run marker count w) ∙ run_items ks w))
+          (both_begin w.items (made_items w.detail w.number made) list.begins
+          (subst (λ (d : Detail). BeginsWithComma (flat_map item_lines (made_items d w.number made))) (sym list.detail) (made_begin w.number made)));
+    }
+row_list (row.Call call_no line dialled release) w list = list
+
+rows_list : (rows : List Row) (w : Walk) → IsList w → IsList (walk_after_rows rows w)
+unfolding walk_after_rows
+rows_list [] w list = list
+rows_list (row ∷ rows) w list = rows_list rows (walk_after_row row w) (row_list row w list)
+
+module _ (plan : Tables) (e : Exchange) (rows : List Row) where
+  abbrev told : Walk
+  told = walk_after_rows rows (begun_at JsonList plan e)
+
+  list : IsList told
+  list = rows_list rows (begun_at JsonList plan e) (record { detail = refl; begins = inl refl })
+
+  pub events_begin : BeginsWithComma (walk_text_of JsonList told.items)
+  events_begin = subst BeginsWithComma (sym (each_alone JsonList told.items refl)) list.begins
+
+  -- they are the text of a story that began in this office
+  pub events_text : (office : OfPlan) (story later : Story) (text : List ℕ) → IsStory story JsonList 0 [] → ChangesAs IsStory (walk_after_rows rows) (record { plan = plan; exchange = e }) story office later
+      → ((detail : Detail) (number : ℕ) (items : List Item) → IsStory later detail number items → text ≡ walk_text_of detail items) → text ≡ walk_text_of JsonList told.items
+  events_text office story later text begun changes ends =
+      let agrees = changes (begun_at JsonList plan e) (record { office_is = refl; described = begun }) in
+      ends told.detail told.number told.items agrees.described ∙ ap (λ (detail : Detail). walk_text_of detail told.items) list.detail
 
 -- a list that doesn't begin with a comma is empty
 pub no_comma : (list : List ℕ) → BeginsWithComma list → ((rest : List ℕ) → list ≢ 44 ∷ rest) → list ≡ drop 1 list
-no_comma list (inl none) other = none ∙ sym (ap (drop 1) none)
-no_comma list (inr (rest, begins)) other = absurd (other rest begins)
-
--- a row leaves the detail as it is
-pub row_detail : (plan : Tables) (e : Exchange) (row : Row) → (walk_after_row row (begun_at JsonList plan e)).detail ≡ JsonList
-unfolding walk_after_row
-row_detail plan e (row.Assign marker job_no job) = refl
-row_detail plan e (row.Steps marker count) = ap (λ (walk : Walk). walk.detail) (steps_are_run marker count (begun_at JsonList plan e)) ∙ run_detail (replicate count marker) (begun_at JsonList plan e)
-row_detail plan e (row.Call call_no line dialled release) = refl
-
--- the text of a story that begins in this office, and is told a row
-pub row_told : (office next : OfPlan) (story told : Story) (row : Row) (text : List ℕ) → IsStory JsonList story 0 [] → ChangesAs (walk_after_row row) office story next told
-    → ((detail : Detail) (number : ℕ) (items : List Item) → IsStory detail told number items → text ≡ walk_text_of detail items)
-    → text ≡ walk_text_of JsonList (walk_after_row row (begun_at JsonList office.plan office.exchange)).items
-row_told office next story told row text begun tells ends =
-    let w = begun_at JsonList office.plan office.exchange in
-    let after = walk_after_row row w in
-    let agrees = tells w (record { office_is = refl; story_is = begun }) in
-    ends after.detail after.number after.items agrees.story_is ∙ ap (λ (detail : Detail). walk_text_of detail after.items) (row_detail office.plan office.exchange row)
+no_comma _ (inl none) other = none ∙ sym (ap (drop 1) none)
+no_comma _ (inr (rest, begins)) other = absurd (other rest begins)

@@ -1,12 +1,9 @@
 pub mod PlanRefusals
 pub mod KindLetters
 pub mod RunRows
-pub mod ReachedRows
-pub mod Replays
+pub mod Outcomes
 pub mod Audits
 pub mod FindingTexts
 pub mod SettledHistory
-pub mod Tellings
 pub mod LastEvents
-pub mod LookTexts
 pub mod IdleOffices

@@ -3,7 +3,7 @@ use Rattle.xbar_moves.specs.declared.kind.Kind.{Kind}
 use Rattle.xbar_moves.specs.declared.kind.Kind.TheVariants.{Dial, Completing, Combined}
 use Rattle.crossbar5_task.specs.Tasks.{is_on_rows}
 use Rattle.crossbar5_task.specs.declared.task.Task.{Task}
-use Rattle.crossbar5.specs.Faults.{IsMarkerCount}
+use Rattle.xbar_moves.specs.Kinds.{IsMarkerCount, combined_pair}
 
 -- the letter of a marker's kind: D, C or X
 abbrev pub letter_of : Kind → ℕ
@@ -25,10 +25,10 @@ pub record Names (text : List ℕ) (kinds : List Kind) : Type 0 where
 abbrev pub NamesNone : List ℕ → Type 0
 NamesNone letters = (kinds : List Kind) → ¬ Names letters kinds
 
--- the kinds are those that the letters name if the input is rows; for records there are none
+-- the kinds are those that the letters name if the input is rows; for records they are the default
 abbrev pub NamesIf : Bool → List ℕ → List Kind → Type 0
 NamesIf true letters kinds = Names letters kinds
-NamesIf false letters kinds = kinds ≡ []
+NamesIf false letters kinds = kinds ≡ combined_pair
 
 -- the kinds of a task's markers, by letters
 abbrev pub NamesFor : Task → List ℕ → List Kind → Type 0

@@ -1,5 +1,5 @@
 -- Looks: the office that rows lead to, as it stands.
-use Rattle.std.specs.Prelude.{◌≡◌, ◌⊎◌, ℕ, Option, Some, List, [], ◌∷◌, drop, slice_get, true}
+use Rattle.std.specs.Prelude.{◌≡◌, ◌⊎◌, ℕ, ◌-◌, Option, Some, List, [], ◌∷◌, drop, length, slice_get, take, true}
 use Rattle.csv.specs.Reading.{default_config, records as csv_records, strip_bom}
 use Rattle.xbar_plan.specs.Tables.{Tables}
 use Rattle.xbar_moves.specs.Exchange.{Exchange, Marker, fresh_exchange, is_idle}
@@ -15,9 +15,9 @@ use Rattle.xbar_traffic.specs.declared.row.Row.{Row}
 use Rattle.xbar_walk.specs.Items.{walk_text_of}
 use Rattle.xbar_walk.specs.declared.detail.Detail.TheVariants.{JsonList}
 use Rattle.crossbar5.specs.declared.status.Status.{Status}
-use Rattle.crossbar5.specs.Rows.{done}
+use Rattle.crossbar5.specs.Rows.{after_rows}
 use Rattle.crossbar5.specs.Run.{Leaves, Outcome, RefusesTraffic, outcome_status, reached}
-use Rattle.crossbar5.specs.Walk.{begun_at, walk_after_row}
+use Rattle.crossbar5.specs.Walk.{begun_at, walk_after_rows}
 use Rattle.crossbar5_task.specs.declared.forms.LookForm.{LookForm}
 use Rattle.crossbar5_task.specs.declared.forms.LookForm.TheVariants.{Words, Json, Svg}
 
@@ -29,17 +29,13 @@ AreIdle e = (k : ℕ) (m : Marker) → slice_get e.markers k ≡ Some m → is_i
 abbrev pub BeginsWithComma : List ℕ → Type 0
 BeginsWithComma list = (list ≡ []) ⊎ ((rest : List ℕ) × (list ≡ 44 ∷ rest))
 
--- the events of a row, done in this office: objects with commas between them, with the steps
--- numbered from 1
-abbrev pub row_events : Tables → Exchange → Row → List ℕ
-row_events plan e row =
-    drop 1 (walk_text_of JsonList (walk_after_row row (begun_at JsonList plan e)).items)
-
--- the events of the last of these rows, which are done one after another
-unfoldable pub last_events : Tables → Exchange → List Row → List ℕ
-last_events plan e [] = []
-last_events plan e (row ∷ []) = row_events plan e row
-last_events plan e (row ∷ next ∷ rows) = last_events plan (done plan e row) (next ∷ rows)
+-- the events of the last of these rows, in the office after those before it: objects with commas
+-- between them, with the steps numbered from 1
+abbrev pub last_events : Tables → Exchange → List Row → List ℕ
+last_events plan e rows =
+    let before = length rows - 1 in
+    let w = begun_at JsonList plan (after_rows plan (take before rows) e) in
+    drop 1 (walk_text_of JsonList (walk_after_rows (drop before rows) w).items)
 
 -- an office as it stands, under its plan, with these events
 abbrev pub shown : LookForm → Tables → Exchange → List ℕ → List ℕ

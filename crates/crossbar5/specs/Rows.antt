@@ -1,4 +1,4 @@
-use Rattle.std.specs.Prelude.{◌≡◌, Option, Some, None, slice_get}
+use Rattle.std.specs.Prelude.{◌≡◌, Option, Some, None, List, [], ◌∷◌, slice_get}
 use Rattle.xbar_plan.specs.Tables.{Tables}
 use Rattle.xbar_moves.specs.Exchange.{Exchange, Marker}
 use Rattle.xbar_moves.specs.Moves.{assigned, refusal, steps}
@@ -43,3 +43,8 @@ abbrev pub done : Tables → Exchange → Row → Exchange
 done plan e (Assign marker job_no job) = assigned marker job_no job e
 done plan e (Steps marker count) = steps plan marker count e
 done plan e (Call call_no line dialled release) = e
+
+-- the office after rows that are done one after another
+unfoldable pub after_rows : Tables → List Row → Exchange → Exchange
+after_rows plan [] e = e
+after_rows plan (row ∷ rows) e = after_rows plan rows (done plan e row)

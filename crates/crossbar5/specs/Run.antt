@@ -1,4 +1,4 @@
-use Rattle.std.specs.Prelude.{◌≡◌, ◌⊎◌, ℕ, ◌+◌, ◌*◌, true, length, Option, Some, None, List, [], ◌∷◌, slice_get, ⊤}
+use Rattle.std.specs.Prelude.{◌≡◌, ℕ, ◌+◌, ◌*◌, true, length, Option, Some, None, Result, Ok, Err, List, [], ◌∷◌, slice_get, ⊤}
 use Rattle.csv.specs.Reading.{default_config, records as csv_records, strip_bom}
 use Rattle.xbar_equip.specs.Word.{TurnWord}
 use Rattle.xbar_plan.specs.Tables.{Tables}
@@ -6,7 +6,7 @@ use Rattle.xbar_match.specs.Switches.{word_of}
 use Rattle.xbar_match.specs.Counts.{closed_line_fields, closed_switch_fields}
 use Rattle.xbar_office.specs.Legal.{IsLegal, after}
 use Rattle.xbar_jobs.specs.Office.{ShowsOffice}
-use Rattle.xbar_moves.specs.Exchange.{Exchange, Marker, is_idle, fresh_exchange}
+use Rattle.xbar_moves.specs.Exchange.{Exchange, Marker, OfPlan, is_idle, fresh_exchange}
 use Rattle.xbar_moves.specs.Settling.{settled}
 use Rattle.xbar_moves.specs.declared.kind.Kind.{Kind}
 use Rattle.xbar_traffic.specs.Fault.{fault_line}
@@ -18,8 +18,7 @@ use Rattle.xbar_traffic.specs.declared.fault.TrafficFault.{TrafficFault}
 use Rattle.xbar_traffic.specs.declared.mode.Mode.TheVariants.{Replay}
 use Rattle.xbar_traffic.specs.declared.row.Row.{Row}
 use Rattle.xbar_report.specs.Text.{report_text}
-use Rattle.crossbar5.specs.Faults.{IsMarkerCount}
-use Rattle.crossbar5.specs.PlanRefusal.{IsAnswerOf, IsRefusedPlan, PlanRead}
+use Rattle.crossbar5.specs.PlanRefusal.{IsAnswerOf, PlanRead}
 use Rattle.crossbar5.specs.declared.status.Status.{Status}
 use Rattle.crossbar5.specs.declared.status.Status.TheVariants.{Fine, TrafficRefused}
 use Rattle.crossbar5.specs.Rows.{done, row_fault}
@@ -50,6 +49,11 @@ outcome_from plan e number (row ∷ rows) fault =
 abbrev pub outcome_by : Option TrafficFault → Exchange → Outcome
 outcome_by None e = Leaves e
 outcome_by (Some fault) e = RefusesTraffic fault
+
+-- the outcome by the office that is left, or by the fault that refuses the traffic
+abbrev pub outcome_of : Result OfPlan TrafficFault → Outcome
+outcome_of (Ok office) = Leaves office.exchange
+outcome_of (Err fault) = RefusesTraffic fault
 
 -- what rows lead to in a new office with markers of these kinds, and the fault of the row after
 -- them, if it has one
@@ -112,8 +116,3 @@ pub record IsReplayUnder (plan : Tables) (kinds : List Kind) (traffic text : Lis
 abbrev pub IsReplay : PlanRead → List Kind → List ℕ → List ℕ → Status → Type 0
 IsReplay plan kinds traffic text status =
     IsAnswerOf (λ tables. IsReplayUnder tables kinds) plan traffic text status
-
--- a replay is refused before any traffic is read: its markers aren't 1 to 48, or its plan is
--- refused
-abbrev pub IsRefusedUnread : PlanRead → List Kind → Type 0
-IsRefusedUnread plan kinds = ¬ IsMarkerCount (length kinds) ⊎ IsRefusedPlan plan

@@ -1,31 +1,30 @@
 //! The engine: from a plan and the bytes of an input to a text and a status, with a diagnostic if
 //! the plan or the input is refused.
 
-ghost use Rattle.std.specs.Prelude.{◌≡◌, ◌≢◌, ◌↔◌, Err, IfOk, IfSome, List, OnOk, ℕ};
+ghost use Rattle.std.specs.Prelude.{◌≡◌, ◌≢◌, Err, IfOk, IfSome, List, OnOk, ℕ};
 ghost use Rattle.std.specs.Io.KnownBytes.{IsAtEnd};
 ghost use Rattle.counted_io.specs.Counts.{HasFailed, ReadsUsedUp};
 ghost use Rattle.crossbar5.specs.PlanPlaces.{ShowsPlaceIn};
 ghost use Rattle.crossbar5.specs.PlanRefusal.{IsRefusedPlan, plan_in};
-ghost use Rattle.crossbar5.specs.Tasks.{HasItsMarkers, IsDone, IsUnreadTask};
+ghost use Rattle.crossbar5.specs.Tasks.{IsDone};
 
-use crate::tasks::{has_its_markers, written};
+use crate::tasks::written;
 use crate::{EngineFault, Input, PlanSource, Written, read_input};
 use counted_io::Source;
 use crossbar5_task::Task;
 use std::alloc::Global;
-use xbar_core::Kind;
+use xbar_moves::Kinds;
 
 /// Does a task with this plan and all that the source gives. `kinds` are those of the markers,
 /// marker 0 first; they count only for tasks on rows.
 ///
-/// The markers are judged first, then the plan, then the input. If the markers or the plan are
-/// refused, the source is left unread. The input is read to its end before its first line is
-/// checked.
+/// The plan is judged first, then the input. If the plan is refused, the source is left unread. The
+/// input is read to its end before its first line is checked.
 pub fn do_task<R: Source>(
     alloc: Global,
     task: Task,
     plan: PlanSource<'_>,
-    kinds: &[Kind],
+    kinds: &Kinds,
     source: &mut R,
 ) -> Result<Written, EngineFault>
     ensures done { IfOk result (λ written. (input : List ℕ) ×
@@ -33,20 +32,16 @@ pub fn do_task<R: Source>(
         IsDone task kinds.now (plan_in plan.entry) input written.text.items written.status) }
     ensures place { IfOk result (λ written.
         IsRefusedPlan (plan_in plan.entry) → ShowsPlaceIn plan.entry written.diagnostic) }
-    ensures markers { (result ≡ Err EngineFault.Markers) ↔ ¬ HasItsMarkers task kinds.now }
     ensures device { result ≡ Err EngineFault.Device
         → HasFailed (R.failure_count source.old) (R.failure_count source.new) }
     ensures no_failure { result ≢ Err EngineFault.Device
         → R.failure_count source.new ≡ R.failure_count source.old }
     ensures long { result ≡ Err EngineFault.Long →
         ReadsUsedUp (R.read_count source.old) (R.read_count source.new) }
-    ensures unread { IsUnreadTask task kinds.now (plan_in plan.entry) → source.new ≡ source.old }
+    ensures unread { IsRefusedPlan (plan_in plan.entry) → source.new ≡ source.old }
     ensures end { OnOk result
-        (¬ IsUnreadTask task kinds.now (plan_in plan.entry) → IsAtEnd (R.remaining source.new)) }
+        (¬ IsRefusedPlan (plan_in plan.entry) → IsAtEnd (R.remaining source.new)) }
 {
-    if !has_its_markers(task, kinds) {
-        return Err(EngineFault::Markers);
-    }
     match read_input(alloc, plan, source)? {
         Input::Read { plan, bytes } => Ok(written(alloc, task, &plan, kinds, &bytes)?),
         Input::Refused(written) => Ok(written),

@@ -6,13 +6,9 @@ use counted_io::{ReadFault, WriteFault};
 use std::alloc::{AllocError, AllocFailed};
 use thiserror::Error;
 
-/// Why a run didn't write its whole text, or why the kinds of the markers are refused. `Display`
-/// writes the name of the variant.
+/// Why a run didn't write its whole text. `Display` writes the name of the variant.
 #[derive(Clone, Copy, Debug, PartialEq, Eq, Error)]
 pub enum EngineFault {
-    /// The number of markers is out of range, or the text of their kinds names no kinds.
-    #[error("Markers")]
-    Markers,
     #[error("Memory")]
     Memory,
     /// A read, a write or a flush failed, and the failure was counted.

@@ -75,7 +75,6 @@ pub fn read_input<R: Source>(
 ) -> Result<Input, EngineFault>
     ensures input { IfOk result (IsInputOf (plan_in plan.entry) (R.remaining source.old)) }
     ensures place { IfOk result (ShowsPlaceIfRefused plan.entry) }
-    ensures markers { result ≢ Err EngineFault.Markers }
     ensures device { result ≡ Err EngineFault.Device
         → HasFailed (R.failure_count source.old) (R.failure_count source.new) }
     ensures no_failure { result ≢ Err EngineFault.Device

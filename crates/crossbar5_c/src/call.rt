@@ -1,11 +1,9 @@
 //! Calls of the library.
 
-ghost use Rattle.std.specs.Prelude.{◌≡◌, ◌↔◌, Err, IfOk, List};
-ghost use Rattle.xbar_moves.specs.declared.kind.Kind.{Kind as TheKind};
+ghost use Rattle.std.specs.Prelude.{◌≡◌, IfOk};
 ghost use Rattle.xbar_plan_text.specs.Document.{plan_of};
-ghost use Rattle.crossbar5.specs.Kinds.{NamesFor, RefusesLetters};
 ghost use Rattle.crossbar5.specs.Statuses.{status_number};
-ghost use Rattle.crossbar5.specs.Tasks.{HasItsMarkers, IsDone};
+ghost use Rattle.crossbar5.specs.Tasks.{IsDone};
 ghost use Rattle.crossbar5.specs.declared.status.Status.{Status as TheStatus};
 ghost use Rattle.crossbar5_c.specs.Answer.{IsAnswer};
 
@@ -15,7 +13,7 @@ use crate::status::{MARKERS_REFUSED, NO_SUCH_TASK, OUT_OF_MEMORY};
 use crossbar5::{EngineFault, PlanSource, do_task, kinds_for};
 use crossbar5_task::Task;
 use std::alloc::{AllocError, Global};
-use xbar_moves::Kind;
+use xbar_moves::Kinds;
 
 /// Answers a call for the task of this number.
 pub fn answer_call(alloc: Global, number: u32, letters: &[u8], plan: &[u8], input: &[u8]) -> Answer
@@ -24,43 +22,23 @@ pub fn answer_call(alloc: Global, number: u32, letters: &[u8], plan: &[u8], inpu
     let Some(task) = Task::of_number(number) else {
         return Answer::without_text(alloc, NO_SUCH_TASK);
     };
-    match done(alloc, task, letters, plan, input) {
+    let Some(kinds) = kinds_for(task, letters) else {
+        return Answer::without_text(alloc, MARKERS_REFUSED);
+    };
+    match done(alloc, task, &kinds, plan, input) {
         Ok(answer) => answer,
-        Err(EngineFault::Markers) => Answer::without_text(alloc, MARKERS_REFUSED),
-        Err(_) => Answer::without_text(alloc, OUT_OF_MEMORY),
-    }
-}
-
-/// Does a task, with markers of the kinds that the letters name.
-fn done(
-    alloc: Global,
-    task: Task,
-    letters: &[u8],
-    plan: &[u8],
-    input: &[u8],
-) -> Result<Answer, EngineFault>
-    ensures done { IfOk result (λ answer. (kinds : List TheKind) × (status : TheStatus) ×
-        NamesFor task letters.now kinds ×
-        IsDone task kinds (plan_of plan.now) input.now answer.text.items status ×
-        (answer.status ≡ status_number status)) }
-    ensures refused { (result ≡ Err EngineFault.Markers) ↔ RefusesLetters task letters.now }
-{
-    let kinds = kinds_for(alloc, task, letters)?;
-    match done_with(alloc, task, &kinds, plan, input) {
-        Ok(answer) => Ok(answer),
-        Err(_) => Err(EngineFault::Memory),
+        Err(AllocError) => Answer::without_text(alloc, OUT_OF_MEMORY),
     }
 }
 
 /// Does a task, with markers of these kinds.
-fn done_with(
+fn done(
     alloc: Global,
     task: Task,
-    kinds: &[Kind],
+    kinds: &Kinds,
     plan: &[u8],
     input: &[u8],
 ) -> Result<Answer, AllocError>
-    requires { HasItsMarkers task kinds.now }
     ensures { IfOk result (λ answer. (status : TheStatus) ×
         IsDone task kinds.now (plan_of plan.now) input.now answer.text.items status ×
         (answer.status ≡ status_number status)) }
@@ -72,6 +50,6 @@ fn done_with(
             status: u32::from(written.status.number()),
         }),
         Err(EngineFault::Memory) => Err(AllocError),
-        Err(EngineFault::Markers | EngineFault::Device | EngineFault::Long) => unreachable!(),
+        Err(EngineFault::Device | EngineFault::Long) => unreachable!(),
     }
 }

@@ -1,115 +1,73 @@
 -- What the engine answers, as the program reports it.
-use Rattle.std.proofs.Common.{◌≡◌, ◌≢◌, ◌∙◌, ◌⊎◌, ℕ, Bool, Bor, Global, List, Option, None, Some, Result, Ok, Err, IfErr, IfOk, IfSome, IsTrue, OnOk, false, inl, inr, option_map, refl, subst, sym, String}
+use Rattle.std.proofs.Common.{◌≡◌, ◌≢◌, ℕ, Bool, Bor, List, Option, None, Some, Result, Ok, Err, IfErr, IfOk, IfSome, IsTrue, OnOk, false, inl, inr, option_map, refl, subst, sym}
 use Rattle.std.specs.Io.KnownBytes.{Keeps}
 use Rattle.std.specs.IoError.{error_kind}
-use Rattle.std.specs.String.{string_bytes}
 use Rattle.std.specs.declared.io.Error.{Error}
 use Rattle.xbar_moves.specs.declared.kind.Kind.{Kind}
 use Rattle.crossbar5.specs.Faults.{ComesFirst}
 use Rattle.crossbar5_cli.specs.declared.response.Response.{Response}
 use Rattle.crossbar5.specs.declared.engine_fault.EngineFault.{EngineFault}
-use Rattle.crossbar5.specs.declared.engine_fault.EngineFault.TheVariants.{Device, Long, Markers, Memory}
-use Rattle.crossbar5.specs.PlanRefusal.{PlanRead}
+use Rattle.crossbar5.specs.declared.engine_fault.EngineFault.TheVariants.{Device, Long, Memory}
+use Rattle.crossbar5.specs.PlanRefusal.{IsRefusedPlan, PlanRead}
 use Rattle.crossbar5.specs.declared.written.Written.{Written}
-use Rattle.crossbar5.specs.Tasks.{HasItsMarkers, IsDone, IsUnreadTask}
+use Rattle.crossbar5.specs.Tasks.{IsDone}
 use Rattle.crossbar5_task.specs.declared.task.Task.{Task as EngineTask}
 use Rattle.xbar_plan_text.specs.Document.{plan_of}
-use Rattle.crossbar5_live.specs.Live.{IsLive, IsLiveUnread}
+use Rattle.crossbar5_live.specs.Live.{IsLive}
 use Rattle.crossbar5_command.specs.declared.ask.Ask.{Ask}
-use Rattle.crossbar5_command.specs.declared.ask.Work.{Work}
-use Rattle.crossbar5_command.specs.declared.ask.Work.TheVariants.{Live, Task}
-use Rattle.crossbar5_cli.specs.Asks.{MayEndAsked, RefusesMarkers}
+use Rattle.xbar_markers.specs.declared.call_markers.CallMarkers.{CallMarkers}
+use Rattle.crossbar5_cli.specs.Asks.{MayEndAsked}
+use Rattle.crossbar5_cli.specs.CheckedWork.{RefusesMarkers}
+use Rattle.crossbar5_cli.specs.declared.checked_work.CheckedWork.{CheckedWork}
+use Rattle.crossbar5_cli.specs.declared.checked_work.CheckedWork.TheVariants.{Live, Task}
 use Rattle.crossbar5_cli.specs.Causes.{opening_fault}
 use Rattle.crossbar5_cli.specs.Endings.{ending_of_run}
-use Rattle.crossbar5_cli.specs.Named.{Files, IsFileFault, IsPlanFault, IsPlanNamed, NamesKinds, files_of, name_in}
-use Rattle.crossbar5_cli.specs.Sentences.{End, FileName, reasons_of_run, sentence_on_plan_file, sentence_on_run, text_of}
+use Rattle.crossbar5_cli.specs.Named.{Files, IsFileFault, IsPlanFault, IsPlanNamed, files_of, name_in}
+use Rattle.crossbar5_cli.specs.Sentences.{FileName, reasons_of_run, sentence_on_plan_file, sentence_on_run, text_of}
 use Rattle.crossbar5_cli.specs.Printed.{IsPut, IsStderrText}
 use Rattle.crossbar5_cli.specs.declared.ending.Ending.{Ending}
 use Rattle.crossbar5_cli.specs.declared.ending.Ending.TheVariants.{Failed}
 use Rattle.crossbar5_cli.specs.declared.sentence.Sentence.{Sentence}
 use Rattle.crossbar5_cli.specs.Program.{DoesAsk, Errors}
-use Rattle.crossbar5_cli.specs.Runs.{IsEndAsAsked, IsEndOf, Streams, sentence_on_markers}
-use Rattle.crossbar5_cli.specs.Work.{IsAnswer, IsDiagnosticOf, IsReady, IsUnread, IsWorkDone, LacksMarkers}
+use Rattle.crossbar5_cli.specs.Runs.{IsEndAsAsked, IsEndOf, Streams}
+use Rattle.crossbar5_cli.specs.Work.{IsAnswer, IsDiagnosticOf, IsWorkDone}
 
 -- what is done of work of this kind is done
-pub task_done : (work : Work) (task : EngineTask) (letters : String Global) → work ≡ Task task letters → (kinds : List Kind)
-    (plan : PlanRead) (unread : Option (List ℕ)) (run : Result Written EngineFault)
-    → IfOk run (λ written. (input : List ℕ) × IfSome unread (λ all. input ≡ all)
-    × IsDone task kinds plan input written.text.items written.status)
-    → IfOk run (λ written. (input : List ℕ) × IfSome unread (λ all. input ≡ all)
-    × IsWorkDone work kinds plan input written.text.items written.status)
-task_done work task letters is kinds plan unread run h =
-    subst (λ (w : Work). IfOk run (λ written. (input : List ℕ) × IfSome unread (λ all. input ≡ all)
-    × IsWorkDone w kinds plan input written.text.items written.status)) (sym is) h
+module _ (work : CheckedWork) (plan : PlanRead) (unread : Option (List ℕ)) (run : Result Written EngineFault) where
+  pub task_done : (task : EngineTask) (kinds : List Kind) → work ≡ Task task kinds
+      → IfOk run (λ written. (input : List ℕ) × IfSome unread (λ all. input ≡ all)
+      × IsDone task kinds plan input written.text.items written.status)
+      → IfOk run (λ written. (input : List ℕ) × IfSome unread (λ all. input ≡ all)
+      × IsWorkDone work plan input written.text.items written.status)
+  task_done task kinds is h =
+      subst (λ (w : CheckedWork). IfOk run (λ written. (input : List ℕ) × IfSome unread (λ all. input ≡ all)
+      × IsWorkDone w plan input written.text.items written.status)) (sym is) h
 
-pub calls_done : (work : Work) (dialling completing : ℕ) → work ≡ Live dialling completing → (kinds : List Kind)
-    (plan : PlanRead) (unread : Option (List ℕ)) (run : Result Written EngineFault)
-    → IfOk run (λ written. (input : List ℕ) × IfSome unread (λ all. input ≡ all)
-    × IsLive plan dialling completing input written.text.items written.status)
-    → IfOk run (λ written. (input : List ℕ) × IfSome unread (λ all. input ≡ all)
-    × IsWorkDone work kinds plan input written.text.items written.status)
-calls_done work dialling completing is kinds plan unread run h =
-    subst (λ (w : Work). IfOk run (λ written. (input : List ℕ) × IfSome unread (λ all. input ≡ all)
-    × IsWorkDone w kinds plan input written.text.items written.status)) (sym is) h
+  pub calls_done : (markers : CallMarkers) → work ≡ Live markers
+      → IfOk run (λ written. (input : List ℕ) × IfSome unread (λ all. input ≡ all)
+      × IsLive plan markers.dialling markers.completing input written.text.items written.status)
+      → IfOk run (λ written. (input : List ℕ) × IfSome unread (λ all. input ≡ all)
+      × IsWorkDone work plan input written.text.items written.status)
+  calls_done markers is h =
+      subst (λ (w : CheckedWork). IfOk run (λ written. (input : List ℕ) × IfSome unread (λ all. input ≡ all)
+      × IsWorkDone w plan input written.text.items written.status)) (sym is) h
 
--- a task that has its markers is left unread exactly if the work is
-pub task_end : (AtEnd : Type 0) (work : Work) (task : EngineTask) (letters : String Global) → work ≡ Task task letters
-    → (kinds : List Kind) (plan : PlanRead) → IsReady work kinds → (run : Result Written EngineFault)
-    → OnOk run (¬ IsUnreadTask task kinds plan → AtEnd) → OnOk run (¬ IsUnread work plan → AtEnd)
-task_end AtEnd work task letters is kinds plan ready run h =
-    subst (λ (w : Work). OnOk run (¬ IsUnread w plan → AtEnd)) (sym is) (go run h)
-  where
-    has : HasItsMarkers task kinds
-    has = subst (λ (w : Work). IsReady w kinds) is ready
-
-    go : (run : Result Written EngineFault) → OnOk run (¬ IsUnreadTask task kinds plan → AtEnd)
-        → OnOk run (¬ IsUnread (Task task letters) plan → AtEnd)
-    go (Ok answer) h = λ read. h (λ unread. elim unread [ inl lacks ↦ lacks has | inr refused ↦ read (inr refused) ])
-    go (Err fault) h = tt
-
--- live calls are left unread exactly if the work is
-pub calls_end : (AtEnd : Type 0) (work : Work) (dialling completing : ℕ) → work ≡ Live dialling completing → (plan : PlanRead)
-    (run : Result Written EngineFault) → OnOk run (¬ IsLiveUnread plan dialling completing → AtEnd)
-    → OnOk run (¬ IsUnread work plan → AtEnd)
-calls_end AtEnd work dialling completing is plan run h =
-    subst (λ (w : Work). OnOk run (¬ IsUnread w plan → AtEnd)) (sym is) h
-
-either : {A : Type 0} {a b c : A} → (c ≡ a) ⊎ (c ≡ b) → (c ≢ a) → (c ≢ b) → ⊥
-either (inl e) p q = p e
-either (inr e) p q = q e
-
-device_markers : Device ≢ Markers
-device_markers is = cc
-
-device_memory : Device ≢ Memory
-device_memory is = cc
-
-long_markers : Long ≢ Markers
-long_markers is = cc
-
-long_memory : Long ≢ Memory
-long_memory is = cc
-
-no_sentence : (work : Work) → sentence_on_markers work Memory ≡ None
-no_sentence (Task task letters) = refl
-no_sentence (Live dialling completing) = refl
-
--- a run that has its markers ends as the engine answered
-module _ (work : Work) (kinds : List Kind) (file : FileName) (files : Files) (streams : Streams) (reasons : Option (List ℕ)) (sentence : Option Sentence) where
+-- a run ends as the engine answered
+module _ (work : CheckedWork) (file : FileName) (files : Files) (streams : Streams) (reasons : Option (List ℕ)) (sentence : Option Sentence) where
   pub run_end : (run : Result Response EngineFault) (ending : Ending) (plan : PlanRead)
       → IsPlanNamed files (name_in file) plan
-      → IfOk run (λ answer. IsAnswer work kinds plan streams.unread streams.before streams.after answer.status answer.reasons.items)
+      → IfOk run (λ answer. IsAnswer work plan streams.unread streams.before streams.after answer.status answer.reasons.items)
       → IfOk run (λ answer. IsDiagnosticOf work streams.before streams.after answer.status answer.reasons.items answer.diagnostic)
       → IfErr run (λ fault. ComesFirst fault → Keeps streams.before streams.after)
-      → (IsUnread work plan → streams.IsUntouched)
-      → OnOk run (¬ IsUnread work plan → streams.IsReadToEnd)
+      → (IsRefusedPlan plan → streams.IsUntouched)
+      → OnOk run (¬ IsRefusedPlan plan → streams.IsReadToEnd)
       → (run ≡ Err Device → streams.HasFailure)
       → (run ≡ Err Long → streams.HasTooManyReads)
-      → run ≢ Err Markers → ending ≡ ending_of_run run
+      → ending ≡ ending_of_run run
       → reasons ≡ reasons_of_run run → sentence ≡ sentence_on_run run file streams.failures
-      → IsEndOf work kinds file files streams (record { ending = ending; reasons = reasons; sentence = sentence })
-  run_end (Ok answer) ending plan named a s k u e d l m is r se =
-      subst (λ (x : Ending). IsEndOf work kinds file files streams (record { ending = x; reasons = reasons; sentence = sentence })) (sym is)
+      → IsEndOf work file files streams (record { ending = ending; reasons = reasons; sentence = sentence })
+  run_end (Ok answer) ending plan named a s k u e d l is r se =
+      subst (λ (x : Ending). IsEndOf work file files streams (record { ending = x; reasons = reasons; sentence = sentence })) (sym is)
       (record {
         plan = plan;
         named = named;
@@ -122,40 +80,24 @@ module _ (work : Work) (kinds : List Kind) (file : FileName) (files : Files) (st
         diagnostic_is = s;
         sentence_is = se;
       })
-  run_end (Err Markers) ending plan named a s k u e d l m is r se = absurd (m refl)
-  run_end (Err Memory) ending plan named a s k u e d l m is r se =
-      subst (λ (x : Ending). IsEndOf work kinds file files streams (record { ending = x; reasons = reasons; sentence = sentence })) (sym is)
+  run_end (Err Memory) ending plan named a s k u e d l is r se =
+      subst (λ (x : Ending). IsEndOf work file files streams (record { ending = x; reasons = reasons; sentence = sentence })) (sym is)
       (record { reasons_are = r; why = inl (record { cause = tt; unwritten = k; sentence_is = se }) })
-  run_end (Err Device) ending plan named a s k u e d l m is r se =
-      subst (λ (x : Ending). IsEndOf work kinds file files streams (record { ending = x; reasons = reasons; sentence = sentence })) (sym is)
+  run_end (Err Device) ending plan named a s k u e d l is r se =
+      subst (λ (x : Ending). IsEndOf work file files streams (record { ending = x; reasons = reasons; sentence = sentence })) (sym is)
       (record { reasons_are = r; why = inl (record { cause = d refl; unwritten = k; sentence_is = se }) })
-  run_end (Err Long) ending plan named a s k u e d l m is r se =
-      subst (λ (x : Ending). IsEndOf work kinds file files streams (record { ending = x; reasons = reasons; sentence = sentence })) (sym is)
+  run_end (Err Long) ending plan named a s k u e d l is r se =
+      subst (λ (x : Ending). IsEndOf work file files streams (record { ending = x; reasons = reasons; sentence = sentence })) (sym is)
       (record { reasons_are = r; why = inl (record { cause = l refl; unwritten = k; sentence_is = se }) })
 
   -- the plan's file was to blame, or memory ran out for the plan
   pub plan_end : (ending : Ending) (fault : EngineFault) (reason : Option Error)
       → IsPlanFault files (name_in file) fault → streams.IsUntouched → streams.IsUnwritten
       → ending ≡ Failed fault → reasons ≡ None → sentence ≡ sentence_on_plan_file fault file reason
-      → IsEndOf work kinds file files streams (record { ending = ending; reasons = reasons; sentence = sentence })
+      → IsEndOf work file files streams (record { ending = ending; reasons = reasons; sentence = sentence })
   plan_end ending fault reason f u w is r se =
-      subst (λ (x : Ending). IsEndOf work kinds file files streams (record { ending = x; reasons = reasons; sentence = sentence })) (sym is)
+      subst (λ (x : Ending). IsEndOf work file files streams (record { ending = x; reasons = reasons; sentence = sentence })) (sym is)
       (record { reasons_are = r; why = inr (record { cause = f; unread = u; unwritten = w; reason = reason; sentence_is = se }) })
-
-  -- the markers were refused, or memory ran out for their gates
-  pub markers_end : (ending : Ending) (fault : EngineFault)
-      → (fault ≡ Markers) ⊎ (fault ≡ Memory) → (fault ≡ Markers → LacksMarkers work) → streams.IsUntouched
-      → Keeps streams.before streams.after
-      → ending ≡ Failed fault → reasons ≡ None → sentence ≡ sentence_on_markers work fault
-      → IsEndOf work kinds file files streams (record { ending = ending; reasons = reasons; sentence = sentence })
-  markers_end ending Markers why m u w is r se =
-      subst (λ (x : Ending). IsEndOf work kinds file files streams (record { ending = x; reasons = reasons; sentence = sentence })) (sym is)
-      (record { reasons_are = r; why = inl (record { cause = (m refl, u); unwritten = λ _. w; sentence_is = se }) })
-  markers_end ending Memory why m u w is r se =
-      subst (λ (x : Ending). IsEndOf work kinds file files streams (record { ending = x; reasons = reasons; sentence = sentence })) (sym is)
-      (record { reasons_are = r; why = inl (record { cause = tt; unwritten = λ _. w; sentence_is = se ∙ no_sentence work }) })
-  markers_end ending Device why m u w is r se = absurd (either why device_markers device_memory)
-  markers_end ending Long why m u w is r se = absurd (either why long_markers long_memory)
 
 -- if a run ended like this, the program did what is asked for
 pub done_ask : (ask : Ask) (files : Files) (streams : Streams) (errors : Errors) (ending ended : Ending) (is_printed : Bool)
@@ -221,10 +163,3 @@ module _ {File Text : Type 0} (items : Text → List ℕ) (Opens : List ℕ → 
   fault_in opened result opens refused failed =
       subst (λ (f : FileName). IfErr result (IsPlanFault (files_of Opens remaining failures reads) (name_in f))) (sym is)
       (named_fault items Opens remaining failures reads name.now opened result opens refused failed)
-
--- a run of the work that is asked for, with kinds that are asked for
-pub with_kinds : (ask : Ask) (files : Files) (streams : Streams) (end : End) (kinds : List Kind) (file : FileName)
-    → NamesKinds ask.work kinds → name_in file ≡ option_map string_bytes ask.plan
-    → IsEndOf ask.work kinds file files streams end → IsEndAsAsked ask files streams end
-with_kinds ask files streams end kinds file named file_is ends =
-    inr (record { kinds = kinds; named = named; file = file; file_is = file_is; ends = ends })

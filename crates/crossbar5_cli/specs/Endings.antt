@@ -2,9 +2,9 @@ use Rattle.std.specs.Prelude.{ℕ, List, Option, Some, None, Result, Ok, Err, co
 use Rattle.crossbar5.specs.Statuses.{status_number}
 use Rattle.crossbar5_cli.specs.declared.response.Response.{Response}
 use Rattle.crossbar5.specs.declared.engine_fault.EngineFault.{EngineFault}
-use Rattle.crossbar5.specs.declared.engine_fault.EngineFault.TheVariants.{Markers, Memory, Device, Long}
+use Rattle.crossbar5.specs.declared.engine_fault.EngineFault.TheVariants.{Memory, Device, Long}
 use Rattle.crossbar5_cli.specs.declared.ending.Ending.{Ending}
-use Rattle.crossbar5_cli.specs.declared.ending.Ending.TheVariants.{Answered, Printed, Refused, NotText, Failed}
+use Rattle.crossbar5_cli.specs.declared.ending.Ending.TheVariants.{Answered, Printed, Refused, NotText, MarkersRefused, Failed}
 
 -- how a run of the engine ends
 abbrev pub ending_of_run : Result Response EngineFault → Ending
@@ -23,7 +23,7 @@ exit_of (Answered status) = status_number status
 exit_of Printed = 0
 exit_of Refused = 2
 exit_of NotText = 2
-exit_of (Failed Markers) = 2
+exit_of MarkersRefused = 2
 exit_of (Failed Long) = 4
 exit_of (Failed Memory) = 5
 exit_of (Failed Device) = 6
@@ -35,7 +35,7 @@ line_of (Answered _) = None
 line_of Printed = None
 line_of Refused = None
 line_of NotText = Some (codes "error: a word of the command line is not UTF-8 text")
-line_of (Failed Markers) = Some (codes "FAULT,MARKERS")
+line_of MarkersRefused = Some (codes "FAULT,MARKERS")
 line_of (Failed Long) = Some (codes "FAULT,LONG")
 line_of (Failed Memory) = Some (codes "FAULT,MEMORY")
 line_of (Failed Device) = Some (codes "FAULT,DEVICE")

@@ -3,6 +3,7 @@ pub mod Streams
 pub mod Causes
 pub mod Sentences
 pub mod Named
+pub mod CheckedWork
 pub mod Asks
 pub mod Printed
 pub mod Work

@@ -1,31 +1,15 @@
--- What a command line names: the plan's file, and the kinds of the markers.
-use Rattle.std.specs.Prelude.{◌≡◌, ◌⊎◌, [], ℕ, List, Option, None, Some, IfSome, Result, Ok, Err, if◌then◌else◌, option_map, ⊤}
+-- The plan's file that a command line names.
+use Rattle.std.specs.Prelude.{◌≡◌, ◌⊎◌, ℕ, List, Option, None, Some, IfSome, Result, Ok, Err, option_map, ⊤}
 use Rattle.std.specs.IoError.{error_kind}
-use Rattle.std.specs.String.{string_bytes}
 use Rattle.std.specs.declared.io.Error.{Error}
 use Rattle.counted_io.specs.Counts.{HasFailed, ReadsUsedUp}
-use Rattle.xbar_moves.specs.declared.kind.Kind.{Kind}
 use Rattle.xbar_plan_text.specs.Document.{plan_of}
 use Rattle.xbar_plan.specs.Example.{example}
-use Rattle.crossbar5.specs.Kinds.{NamesFor}
 use Rattle.crossbar5.specs.PlanRefusal.{PlanRead}
 use Rattle.crossbar5.specs.declared.engine_fault.EngineFault.{EngineFault}
-use Rattle.crossbar5.specs.declared.engine_fault.EngineFault.TheVariants.{Device, Long, Markers, Memory}
-use Rattle.crossbar5_task.specs.Tasks.{is_on_rows}
-use Rattle.crossbar5_command.specs.declared.ask.Work.{Work}
-use Rattle.crossbar5_command.specs.declared.ask.Work.TheVariants.{Live, Task}
+use Rattle.crossbar5.specs.declared.engine_fault.EngineFault.TheVariants.{Device, Long, Memory}
 use Rattle.crossbar5_cli.specs.Causes.{opening_fault}
 use Rattle.crossbar5_cli.specs.Sentences.{FileName}
-
--- the letters of the markers' kinds, if the work has markers of such kinds
-abbrev pub letters_of : Work → Option (List ℕ)
-letters_of (Task task letters) = if is_on_rows task then Some (string_bytes letters) else None
-letters_of (Live dialling completing) = None
-
--- the kinds are those for the work: those that the letters of a task name, else none
-abbrev pub NamesKinds : Work → List Kind → Type 0
-NamesKinds (Task task letters) kinds = NamesFor task (string_bytes letters) kinds
-NamesKinds (Live dialling completing) kinds = kinds ≡ []
 
 -- what reading the file of this name to its end may give: its text, or a fault
 abbrev pub Files : Type 1
@@ -40,7 +24,6 @@ IsFileFault {File} failures reads file Device =
 IsFileFault {File} failures reads file Long =
     (after : File) × ReadsUsedUp (reads file) (reads after)
 IsFileFault failures reads file Memory = ⊤
-IsFileFault failures reads file Markers = ⊥
 
 -- the same for a file of this name, which couldn't be opened or read
 abbrev pub IsFaultOf : {File : Type 0} → (List ℕ → Result File Error → Type 0) → (File → ℕ)

@@ -9,7 +9,8 @@ use Rattle.crossbar5_command.specs.declared.ask.Ask.{Ask}
 use Rattle.crossbar5_command.specs.declared.command_fault.CommandFault.{CommandFault}
 use Rattle.crossbar5_command.specs.declared.command_fault.CommandFault.TheVariants.{Memory}
 use Rattle.crossbar5.specs.declared.engine_fault.EngineFault.TheVariants.{Device}
-use Rattle.crossbar5_cli.specs.Asks.{MayEndAsked, RefusesMarkers}
+use Rattle.crossbar5_cli.specs.Asks.{MayEndAsked}
+use Rattle.crossbar5_cli.specs.CheckedWork.{RefusesMarkers}
 use Rattle.crossbar5_cli.specs.Named.{Files}
 use Rattle.crossbar5_cli.specs.Sentences.{text_of}
 use Rattle.crossbar5_cli.specs.Streams.{MayEndOf}

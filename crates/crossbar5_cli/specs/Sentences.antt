@@ -2,27 +2,30 @@ use Rattle.std.specs.Prelude.{◌≡◌, ◌∷◌, ℕ, ◌==◌, if◌then◌e
 use Rattle.std.specs.Prelude.{Result, Ok, Err, ◌++◌, codes, option_map}
 use Rattle.std.specs.Borrow.{Bor}
 use Rattle.std.specs.Option.{ForSome}
+use Rattle.std.specs.String.{string_bytes}
 use Rattle.std.specs.declared.io.Error.{Error}
 use Rattle.clap.specs.declared.error.kind.ErrorKind.{ErrorKind}
 use Rattle.clap.specs.declared.error.kind.ErrorKind.TheVariants.{ValueValidation}
 use Rattle.crossbar5.specs.Refusal.{Explanation}
 use Rattle.crossbar5_cli.specs.declared.response.Response.{Response}
 use Rattle.crossbar5.specs.declared.engine_fault.EngineFault.{EngineFault}
-use Rattle.crossbar5.specs.declared.engine_fault.EngineFault.TheVariants.{Markers, Memory, Device, Long}
+use Rattle.crossbar5.specs.declared.engine_fault.EngineFault.TheVariants.{Memory, Device, Long}
 use Rattle.crossbar5.specs.declared.diagnostic.Diagnostic.{Diagnostic}
 use Rattle.crossbar5.specs.declared.diagnostic.Diagnostic.TheVariants as diagnostic
 use Rattle.crossbar5.specs.declared.status.Status.{Status}
 use Rattle.crossbar5.specs.declared.status.Status.TheVariants.{FoundWrong, PlanRefused, ReportRefused, TrafficRefused}
 use Rattle.xbar_diagnostics.specs.Kinds.{wrong_in}
+use Rattle.crossbar5_command.specs.declared.ask.Work.{Work}
+use Rattle.crossbar5_command.specs.declared.ask.Work.TheVariants.{Live, Task}
 use Rattle.crossbar5_cli.specs.declared.ending.Ending.{Ending}
-use Rattle.crossbar5_cli.specs.declared.ending.Ending.TheVariants.{Answered, Failed, Refused}
+use Rattle.crossbar5_cli.specs.declared.ending.Ending.TheVariants.{Answered, Failed, MarkersRefused, Refused}
 use Rattle.crossbar5_cli.specs.declared.sentence.Sentence.{Sentence}
 use Rattle.crossbar5_cli.specs.declared.sentence.Sentence.TheVariants.{Kinds, LiveMarkers, NotMarkerCount, Plan, Traffic, Report, NothingDrawn, PlanUnreadable, PlanTooLong, InputUnreadable, InputTooLong, OutputUnwritable}
 
 -- the ending that a sentence explains
 abbrev pub ending_on : Sentence → Ending
-ending_on (Kinds diagnostic) = Failed Markers
-ending_on (LiveMarkers dialling completing) = Failed Markers
+ending_on (Kinds diagnostic) = MarkersRefused
+ending_on (LiveMarkers dialling completing) = MarkersRefused
 ending_on (Plan file diagnostic) = Answered PlanRefused
 ending_on NotMarkerCount = Refused
 ending_on (Traffic diagnostic) = Answered TrafficRefused
@@ -62,7 +65,6 @@ sentence_on_fault Device failures = Some
     (if failures == 0 then OutputUnwritable else InputUnreadable)
 sentence_on_fault Long failures = Some InputTooLong
 sentence_on_fault Memory failures = None
-sentence_on_fault Markers failures = None
 
 -- the sentence on a response with this diagnostic, this status and these reasons why nothing is
 -- drawn: on the diagnostic, or that wrong records aren't drawn; none if memory for a diagnostic ran
@@ -94,16 +96,16 @@ sentence_on_plan_file Device (Some file) reason = Some (PlanUnreadable file reas
 sentence_on_plan_file Long (Some file) reason = Some (PlanTooLong file)
 sentence_on_plan_file _ _ reason = None
 
--- the sentence on a fault of the letters of the markers' kinds
-abbrev pub sentence_on_kinds : EngineFault → Bor (List ℕ) → Option Sentence
-sentence_on_kinds Markers letters =
+-- the sentence on letters that name no kinds
+abbrev pub sentence_on_kinds : Bor (List ℕ) → Option Sentence
+sentence_on_kinds letters =
     option_map (λ wrong. Kinds (record { kinds = letters; wrong = wrong })) (wrong_in letters.now)
-sentence_on_kinds _ letters = None
 
--- the sentence on a fault of these numbers of live markers
-abbrev pub sentence_on_live_markers : EngineFault → ℕ → ℕ → Option Sentence
-sentence_on_live_markers Markers dialling completing = Some (LiveMarkers dialling completing)
-sentence_on_live_markers _ dialling completing = None
+-- the sentence on the markers that are asked for, which are refused
+abbrev pub IsOnMarkers : Work → Option Sentence → Type 0
+IsOnMarkers (Task task letters) sentence = (text : Bor (List ℕ))
+    × (text.now ≡ string_bytes letters) × (sentence ≡ sentence_on_kinds text)
+IsOnMarkers (Live dialling completing) sentence = sentence ≡ Some (LiveMarkers dialling completing)
 
 -- the sentence after clap's text of this kind was written or couldn't be, by the ending
 abbrev pub sentence_on_printing : ErrorKind → Ending → Option Sentence

@@ -2,28 +2,28 @@
 
 ghost use Rattle.std.specs.Prelude.{◌≡◌, ◌≢◌, ◌-◌, ◌⊎◌, ◌↔◌, Err, IfErr, IfOk, None, option_map};
 ghost use Rattle.std.specs.Io.KnownBytes.{IsAtEnd};
+ghost use Rattle.std.specs.String.{string_bytes};
 ghost use Rattle.counted_io.specs.Counts.{HasFailed, ReadsUsedUp};
 ghost use Rattle.crossbar5.specs.PlanRefusal.{plan_in};
-ghost use Rattle.crossbar5_cli.specs.Asks.{MayEndAsked, RefusesMarkers};
+ghost use Rattle.crossbar5_cli.specs.Asks.{MayEndAsked};
+ghost use Rattle.crossbar5_cli.specs.CheckedWork.{RefusesMarkers};
 ghost use Rattle.crossbar5_cli.specs.Endings.{IsOfRun};
 ghost use Rattle.crossbar5_cli.specs.Named.{IsPlanFault, IsPlanNamed, files_of, name_in, plan_by};
-ghost use Rattle.crossbar5_cli.specs.Runs.{IsEndAsAsked, IsEndOf, sentence_on_markers};
-ghost use Rattle.crossbar5_cli.specs.Work.{IsReady, LacksMarkers};
+ghost use Rattle.crossbar5_cli.specs.Runs.{IsEndAsAsked, IsEndOf};
 
-use crate::named::{file_of, kinds_asked};
+use crate::checked_work::CheckedWork;
 use crate::plan_file::plan_text;
 use crate::system::System;
-use crate::work::{answer, gates_of};
+use crate::work::answer;
 use crate::{Ended, Ending};
 use counted_io::{Sink, Source};
 use crossbar5::{EngineFault, PlanSource};
-use crossbar5_command::{Ask, Work};
+use crossbar5_command::Ask;
 use std::alloc::Global;
 use std::io;
 use std::io::Read;
 use std::sync::Wait;
 use std::thread::Threads;
-use xbar_moves::Kind;
 
 /// Does what is asked for, with this input and output.
 ///
@@ -65,35 +65,33 @@ pub fn do_as_asked<'w, T: Threads + Wait + Sync, S: System, R: Source, W: Sink>(
         × (W.failure_count output.new ≡ W.failure_count output.old) }
     ensures unread { RefusesMarkers ask.now.work → input.new ≡ input.old }
 {
-    match kinds_asked(alloc, &ask.work) {
-        Ok(kinds) => perform(
-            threads,
-            alloc,
-            system,
-            file_of(ask),
-            &ask.work,
-            &kinds,
-            input,
-            output,
-        ),
-        Err(ended) => ended,
+    match CheckedWork::new(&ask.work) {
+        Some(work) => perform(threads, alloc, system, file_of(ask), &work, input, output),
+        None => Ended::of_refused_markers(&ask.work),
     }
 }
 
-/// Does the work with markers of these kinds and the plan in this file, or the example plan if no
-/// file is named.
+/// The name of the plan's file, if one is named.
+fn file_of(ask: &Ask) -> Option<&str>
+    ensures { option_map (λ name. name.now) result ≡ option_map string_bytes ask.now.plan }
+{
+    match &ask.plan {
+        Some(name) => Some(name.as_str()),
+        None => None,
+    }
+}
+
+/// Does the work with the plan in this file, or the example plan if no file is named.
 fn perform<'w, T: Threads + Wait + Sync, S: System, R: Source, W: Sink>(
     threads: &T,
     alloc: Global,
     system: &S,
     file: Option<&'w str>,
-    work: &Work,
-    kinds: &[Kind],
+    work: &CheckedWork,
     input: &mut R,
     output: &mut W,
 ) -> Ended<'w>
-    requires { IsReady work.now kinds.now }
-    ensures ends { IsEndOf work.now kinds.now file.entry
+    ensures ends { IsEndOf work.now file.entry
         (files_of (S.Opens system.now) (λ file. S.File.remaining file)
         (λ file. S.File.failure_count file) (λ file. S.File.read_count file))
         (record {
@@ -116,17 +114,10 @@ fn perform<'w, T: Threads + Wait + Sync, S: System, R: Source, W: Sink>(
           sentence = result.sentence;
         }) }
     ensures run { IsOfRun result.ending }
-    ensures markers { (result.ending ≡ Ending.Failed EngineFault.Markers)
-        ↔ LacksMarkers work.now }
     ensures no_failure { result.ending ≢ Ending.Failed EngineFault.Device
         → (R.failure_count input.new ≡ R.failure_count input.old)
         × (W.failure_count output.new ≡ W.failure_count output.old) }
-    ensures unread { LacksMarkers work.now → input.new ≡ input.old }
 {
-    let gates = match gates_of(alloc, work) {
-        Ok(gates) => gates,
-        Err(fault) => return without_markers(fault, work),
-    };
     let text = match text_named(alloc, system, file) {
         Ok(text) => text,
         Err(fault) => return Ended::of_plan_file(fault, file, reason_of(system, file, fault)),
@@ -134,24 +125,9 @@ fn perform<'w, T: Threads + Wait + Sync, S: System, R: Source, W: Sink>(
     let before = input.failures();
     system.begin(work);
     let plan = source_of(&text);
-    let run = answer(threads, alloc, work, kinds, gates, plan, input, output);
+    let run = answer(threads, alloc, work, plan, input, output);
     system.end();
     Ended::of_run(run, file, input.failures().saturating_sub(before))
-}
-
-/// The end of a run with a fault of the work's markers.
-fn without_markers<'w>(fault: EngineFault, work: &Work) -> Ended<'w>
-    ensures ending { result.ending ≡ Ending.Failed fault }
-    ensures reasons { result.reasons ≡ None }
-    ensures sentence { result.sentence ≡ sentence_on_markers work.now fault }
-{
-    match work {
-        Work::Task { .. } => Ended::plainly(Ending::Failed(fault)),
-        Work::Live {
-            dialling,
-            completing,
-        } => Ended::of_live_markers(fault, *dialling, *completing),
-    }
 }
 
 /// The text of the plan's file, if one is named.
@@ -168,7 +144,6 @@ fn text_named<S: System>(
         (files_of (S.Opens system.now) (λ file. S.File.remaining file)
         (λ file. S.File.failure_count file) (λ file. S.File.read_count file))
         (name_in file.entry)) }
-    ensures markers { result ≢ Err EngineFault.Markers }
 {
     let Some(name) = file else {
         return Ok(None);

@@ -9,6 +9,7 @@ use crate::response::Response;
 use crate::sentence::Sentence;
 use clap::error::ErrorKind;
 use crossbar5::{Diagnostic, EngineFault, Status};
+use crossbar5_command::Work;
 use std::alloc::AllocError;
 use std::io;
 use xbar_diagnostics::kinds_diagnostic;
@@ -82,38 +83,13 @@ impl<'w> Ended<'w> {
         }
     }
 
-    /// The end of a run with a fault of the letters of the markers' kinds.
-    pub fn of_kinds(fault: EngineFault, kinds: &'w str) -> Self
-        ensures ending { result.ending ≡ Ending.Failed fault }
+    /// The end of a run that was asked for with markers that are refused.
+    pub fn of_refused_markers(work: &'w Work) -> Self
+        ensures ending { result.ending ≡ Ending.MarkersRefused }
         ensures reasons { result.reasons ≡ None }
-        ensures sentence { result.sentence ≡ specs.sentence_on_kinds fault kinds.entry }
+        ensures sentence { specs.IsOnMarkers work.now result.sentence }
     {
-        let ending = Ending::Failed(fault);
-        if fault != EngineFault::Markers {
-            return Ended::plainly(ending);
-        }
-        let Some(diagnostic) = kinds_diagnostic(kinds) else {
-            return Ended::plainly(ending);
-        };
-        Ended::with(ending, Some(Sentence::Kinds(diagnostic)))
-    }
-
-    /// The end of a run with a fault of these numbers of live markers.
-    pub fn of_live_markers(fault: EngineFault, dialling: u32, completing: u32) -> Self
-        ensures ending { result.ending ≡ Ending.Failed fault }
-        ensures reasons { result.reasons ≡ None }
-        ensures sentence { result.sentence
-            ≡ specs.sentence_on_live_markers fault dialling completing }
-    {
-        let ending = Ending::Failed(fault);
-        if fault != EngineFault::Markers {
-            return Ended::plainly(ending);
-        }
-        let sentence = Sentence::LiveMarkers {
-            dialling,
-            completing,
-        };
-        Ended::with(ending, Some(sentence))
+        Ended::with(Ending::MarkersRefused, sentence_on_markers(work))
     }
 
     /// The end of a run with a fault of the plan's file, if one is named, and with the system's
@@ -139,6 +115,23 @@ impl<'w> Ended<'w> {
         ensures sentence { result.sentence ≡ specs.sentence_on_printing kind ending }
     {
         Ended::with(ending, sentence_on_printing(kind, ending))
+    }
+}
+
+/// The sentence on the markers that are asked for, which are refused.
+fn sentence_on_markers(work: &Work) -> Option<Sentence<'_>>
+    ensures fits { SpeaksOf result Ending.MarkersRefused }
+    ensures sentence { specs.IsOnMarkers work.now result }
+{
+    match work {
+        Work::Task { kinds, .. } => Some(Sentence::Kinds(kinds_diagnostic(kinds)?)),
+        Work::Live {
+            dialling,
+            completing,
+        } => Some(Sentence::LiveMarkers {
+            dialling: *dialling,
+            completing: *completing,
+        }),
     }
 }
 
@@ -190,7 +183,7 @@ fn sentence_on_plan_file(
     match fault {
         EngineFault::Device => Some(Sentence::PlanUnreadable { file, reason }),
         EngineFault::Long => Some(Sentence::PlanTooLong(file)),
-        EngineFault::Markers | EngineFault::Memory => None,
+        EngineFault::Memory => None,
     }
 }
 
@@ -203,7 +196,7 @@ fn sentence_on_fault<'w>(fault: EngineFault, failures: u64) -> Option<Sentence<'
         EngineFault::Device if failures == 0 => Some(Sentence::OutputUnwritable),
         EngineFault::Device => Some(Sentence::InputUnreadable),
         EngineFault::Long => Some(Sentence::InputTooLong),
-        EngineFault::Markers | EngineFault::Memory => None,
+        EngineFault::Memory => None,
     }
 }
 

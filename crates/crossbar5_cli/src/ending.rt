@@ -17,7 +17,9 @@ pub enum Ending {
     Refused,
     /// A word of the command line is not UTF-8 text.
     NotText,
-    /// The markers are refused, memory ran out, a device failed, or an input is too long.
+    /// The markers that are asked for are refused.
+    MarkersRefused,
+    /// Memory ran out, a device failed, or an input is too long.
     Failed(EngineFault),
 }
 
@@ -37,9 +39,8 @@ impl Ending {
         match self {
             Ending::Answered(status) => status.number(),
             Ending::Printed => 0,
-            Ending::Refused | Ending::NotText => 2,
+            Ending::Refused | Ending::NotText | Ending::MarkersRefused => 2,
             Ending::Failed(fault) => match fault {
-                EngineFault::Markers => 2,
                 EngineFault::Long => 4,
                 EngineFault::Memory => 5,
                 EngineFault::Device => 6,
@@ -54,8 +55,8 @@ impl Ending {
         let line = match self {
             Ending::Answered(_) | Ending::Printed | Ending::Refused => return None,
             Ending::NotText => "error: a word of the command line is not UTF-8 text",
+            Ending::MarkersRefused => "FAULT,MARKERS",
             Ending::Failed(fault) => match fault {
-                EngineFault::Markers => "FAULT,MARKERS",
                 EngineFault::Long => "FAULT,LONG",
                 EngineFault::Memory => "FAULT,MEMORY",
                 EngineFault::Device => "FAULT,DEVICE",

@@ -6,13 +6,13 @@ ghost use Rattle.crossbar5_cli.specs.Endings.{exit_of};
 ghost use Rattle.crossbar5_cli.specs.declared.ending.Ending.{Ending as TheEnding};
 
 use crate::causes::ending_without_words;
+use crate::checked_work::CheckedWork;
 use crate::program::run_words;
 use crate::progress::Progress;
 use crate::system::System;
 use crate::work::input_of;
 use crate::{Ended, Exit, finish};
 use counted_io::Counted;
-use crossbar5_command::Work;
 use std::alloc::AllocError;
 use std::fs::File;
 use std::io::IsTerminal;
@@ -125,14 +125,14 @@ impl System for Host<'_> {
     }
 
     /// On a terminal, prints what to type and how to end it. A failed write is ignored.
-    fn begin(&self, work: &Work) {
+    fn begin(&self, work: &CheckedWork) {
         if self.rt.stdin().is_terminal() {
             let what = input_of(work);
             let _told = eprintln!(self.rt;
                 "crossbar5: standard input is a terminal: type {what}; end with Ctrl-D"
             );
         }
-        if let Work::Task { .. } = work {
+        if let CheckedWork::Task { .. } = work {
             self.progress.begin();
         }
     }

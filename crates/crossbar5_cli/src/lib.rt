@@ -5,12 +5,12 @@
 
 mod asked;
 mod causes;
+mod checked_work;
 mod ended;
 mod ending;
 mod exit;
 mod help;
 mod host;
-mod named;
 mod one_line;
 mod plan_file;
 mod printing;
@@ -23,6 +23,7 @@ mod system;
 mod work;
 
 pub use asked::do_as_asked;
+pub use checked_work::CheckedWork;
 pub use ended::Ended;
 pub use ending::Ending;
 pub use exit::Exit;

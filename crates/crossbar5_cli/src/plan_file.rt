@@ -1,4 +1,4 @@
-ghost use Rattle.std.specs.Prelude.{◌≡◌, ◌≢◌, Err, IfErr, IfOk, IfSome};
+ghost use Rattle.std.specs.Prelude.{◌≡◌, Err, IfErr, IfOk, IfSome};
 ghost use Rattle.std.specs.IoError.{error_kind};
 ghost use Rattle.crossbar5_cli.specs.Causes.{opening_fault};
 ghost use Rattle.crossbar5_cli.specs.Named.{IsFileFault};
@@ -23,7 +23,6 @@ pub fn plan_text<R: Source + Drop>(
         result ≡ Err (opening_fault (error_kind error))) }
     ensures failed { IfOk opened (λ file. IfErr result
         (IsFileFault (λ it. R.failure_count it) (λ it. R.read_count it) file)) }
-    ensures markers { result ≢ Err EngineFault.Markers }
 {
     match opened {
         Ok(file) => file_text(alloc, file),

@@ -1,8 +1,8 @@
 ghost use Rattle.std.specs.Prelude.{ℕ, List, Result, ⊤};
 ghost use Rattle.std.specs.declared.io.Error.{Error};
 
+use crate::checked_work::CheckedWork;
 use counted_io::Source;
-use crossbar5_command::Work;
 use std::io;
 
 /// What the program uses of the system besides its streams.
@@ -19,7 +19,7 @@ pub trait System {
         ensures { Opens self.now name.now result };
 
     /// Called before the input of this work is read.
-    fn begin(&self, work: &Work);
+    fn begin(&self, work: &CheckedWork);
 
     /// Called when the work is done, before any message is written.
     fn end(&self);

@@ -1,5 +1,5 @@
 -- The outcome of live traffic.
-use Rattle.std.specs.Prelude.{◌≡◌, ◌⊎◌, ℕ, ◌+◌, ◌*◌, List, [], ◌∷◌, Option, Some, None, flat_map, length, ⊤}
+use Rattle.std.specs.Prelude.{◌≡◌, ℕ, ◌+◌, ◌*◌, List, [], ◌∷◌, Option, Some, None, flat_map, length, ⊤}
 use Rattle.csv.specs.Reading.{default_config, records as csv_records, strip_bom}
 use Rattle.xbar_plan.specs.Tables.{Tables}
 use Rattle.xbar_office.specs.Legal.{IsLegal, after}
@@ -14,8 +14,7 @@ use Rattle.xbar_markers.specs.Calls.{AreServed}
 use Rattle.xbar_markers.specs.Outcomes.{AreTaken}
 use Rattle.xbar_markers.specs.DesksByKind.{kinds_of}
 use Rattle.xbar_markers.specs.declared.call.Call.{Call}
-use Rattle.crossbar5.specs.Faults.{IsLiveMarkerCount}
-use Rattle.crossbar5.specs.PlanRefusal.{IsAnswerOf, IsRefusedPlan, PlanRead}
+use Rattle.crossbar5.specs.PlanRefusal.{IsAnswerOf, PlanRead}
 use Rattle.crossbar5.specs.TrafficRefusal.{IsTrafficRefusal}
 use Rattle.crossbar5.specs.declared.status.Status.{Status}
 use Rattle.crossbar5.specs.declared.status.Status.TheVariants.{Fine}
@@ -61,8 +60,3 @@ pub record IsLiveUnder (plan : Tables) (dialling completing : ℕ) (traffic text
 abbrev pub IsLive : PlanRead → ℕ → ℕ → List ℕ → List ℕ → Status → Type 0
 IsLive plan dialling completing traffic text status =
     IsAnswerOf (λ tables. IsLiveUnder tables dialling completing) plan traffic text status
-
--- live traffic is refused before any of it is read: there are too few or too many markers, or its
--- plan is refused
-abbrev pub IsLiveUnread : PlanRead → ℕ → ℕ → Type 0
-IsLiveUnread plan dialling completing = ¬ IsLiveMarkerCount dialling completing ⊎ IsRefusedPlan plan

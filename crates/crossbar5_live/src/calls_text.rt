@@ -8,14 +8,13 @@ ghost use Rattle.xbar_markers.specs.Calls.{HasCallNo};
 ghost use Rattle.xbar_markers.specs.Gates.{AreForMarkers};
 ghost use Rattle.xbar_markers.specs.Outcomes.{IsOutcome};
 ghost use Rattle.xbar_markers.specs.declared.call.Call.{Call as CallView};
-ghost use Rattle.crossbar5.specs.Faults.{IsLiveMarkerCount};
 ghost use Rattle.crossbar5_live.specs.Live.{IsLiveUnder, IsTextOfCalls, calls_in, calls_of};
 
 use crossbar5::{Status, Written, refused};
 use std::alloc::{AllocError, Global};
 use std::sync::Wait;
 use std::thread::Threads;
-use xbar_markers::{Call, Gate, Outcome, RunFault, run_calls};
+use xbar_markers::{Call, CallMarkers, Gate, Outcome, run_calls};
 use xbar_match::{count_closed, count_paths};
 use xbar_plan::Plan;
 use xbar_report::report;
@@ -71,45 +70,29 @@ fn text_of_calls(alloc: Global, outcome: &Outcome) -> Result<Vec<u8>, AllocError
     report(alloc, outcome.records.as_slice(), paths, closed)
 }
 
-/// Does the live traffic of these bytes with `dialling` markers that dial and `completing` markers
-/// that complete calls.
+/// Does the live traffic of these bytes with these markers.
 pub fn live<G: Gate + Send + Drop, R: Threads + Wait + Sync>(
     rt: &R,
     alloc: Global,
     plan: &Plan,
-    dialling: usize,
-    completing: usize,
+    markers: &CallMarkers,
     gates: Vec<G>,
     bytes: &[u8],
 ) -> Result<Written, AllocError>
-    requires markers { IsLiveMarkerCount dialling completing }
-    requires gates { vec_len gates ≡ dialling + completing }
+    requires gates { vec_len gates ≡ markers.now.dialling + markers.now.completing }
     requires for_markers { AreForMarkers G.IsAt gates.items }
-    ensures { IfOk result (λ written. IsLiveUnder plan.now dialling completing
-        bytes.now written.text.items written.status) }
+    ensures { IfOk result (λ written. IsLiveUnder plan.now markers.now.dialling
+        markers.now.completing bytes.now written.text.items written.status) }
 {
-    // Called only for its clauses.
-    xbar_traffic::laws::rows_are_in_range();
     let traffic = Traffic::read(alloc, Mode::Live, bytes)?;
     if let Some(fault) = traffic.refusal() {
         return refused(alloc, Mode::Live, bytes, fault);
     }
     let calls = calls(alloc, traffic.rows.as_slice())?;
-    match run_calls(
-        rt,
-        alloc,
-        plan,
-        calls.as_slice(),
-        dialling,
-        completing,
-        gates,
-    ) {
-        Ok(outcome) => Ok(Written {
-            text: text_of_calls(alloc, &outcome)?,
-            status: Status::Fine,
-            diagnostic: Ok(None),
-        }),
-        Err(RunFault::Memory) => Err(AllocError),
-        Err(RunFault::Markers) => unreachable!(),
-    }
+    let outcome = run_calls(rt, alloc, plan, &calls, markers, gates)?;
+    Ok(Written {
+        text: text_of_calls(alloc, &outcome)?,
+        status: Status::Fine,
+        diagnostic: Ok(None),
+    })
 }

@@ -1,14 +1,14 @@
 //! Live traffic: from the bytes of a plan and of calls to those of the output, by markers on
 //! threads, with a diagnostic if the plan or the traffic is refused.
 
-ghost use Rattle.std.specs.Prelude.{◌≡◌, ◌≢◌, ◌↔◌, ◌⊎◌, Err, IfErr, IfOk, IfSome, List, OnOk, ℕ, ◌+◌, vec_len};
+ghost use Rattle.std.specs.Prelude.{◌≡◌, ◌≢◌, ◌⊎◌, Err, IfErr, IfOk, IfSome, List, OnOk, ℕ, ◌+◌, vec_len};
 ghost use Rattle.std.specs.Io.KnownBytes.{Appends, IsAtEnd, Keeps};
 ghost use Rattle.counted_io.specs.Counts.{HasFailed, ReadsUsedUp};
 ghost use Rattle.xbar_markers.specs.Gates.{AreForMarkers};
-ghost use Rattle.crossbar5.specs.Faults.{ComesFirst, IsLiveMarkerCount};
+ghost use Rattle.crossbar5.specs.Faults.{ComesFirst};
 ghost use Rattle.crossbar5.specs.PlanPlaces.{ShowsPlaceIn};
 ghost use Rattle.crossbar5.specs.PlanRefusal.{IsRefusedPlan, plan_in};
-ghost use Rattle.crossbar5_live.specs.Live.{IsLive, IsLiveUnread};
+ghost use Rattle.crossbar5_live.specs.Live.{IsLive};
 
 use crate::calls_text::live;
 use counted_io::{Sink, Source, write_all};
@@ -16,50 +16,41 @@ use crossbar5::{EngineFault, Input, PlanSource, Status, Written, read_input};
 use std::alloc::Global;
 use std::sync::Wait;
 use std::thread::Threads;
-use xbar_markers::Gate;
-use xbar_moves::MOST_MARKERS;
+use xbar_markers::{CallMarkers, Gate};
 
-/// Does the calls of the live traffic from the source, in an office with this plan. `dialling`
-/// markers dial and `completing` markers complete calls, each on a thread of its own and with a gate
-/// of its own. Gate `k` is for marker `k`, and the first markers are those that dial.
+/// Does the calls of the live traffic from the source, in an office with this plan and these
+/// markers, each on a thread of its own and with a gate of its own. Gate `k` is for marker `k`.
 ///
-/// The numbers of markers are judged first, then the plan, then all rows of the traffic, before
-/// any call is done. If the markers or the plan are refused, the source is left unread. It isn't
-/// promised that the calls end.
+/// The plan is judged first, then all rows of the traffic, before any call is done. If the plan is
+/// refused, the source is left unread. It isn't promised that the calls end.
 pub fn do_live<G: Gate + Send + Drop, T: Threads + Wait + Sync, R: Source>(
     rt: &T,
     alloc: Global,
     plan: PlanSource<'_>,
-    dialling: usize,
-    completing: usize,
+    markers: &CallMarkers,
     gates: Vec<G>,
     source: &mut R,
 ) -> Result<Written, EngineFault>
-    requires gates { vec_len gates ≡ dialling + completing }
+    requires gates { vec_len gates ≡ markers.now.dialling + markers.now.completing }
     requires for_markers { AreForMarkers G.IsAt gates.items }
     ensures live { IfOk result (λ written. (traffic : List ℕ) ×
         IfSome (R.remaining source.old) (λ all. traffic ≡ all) ×
-        IsLive (plan_in plan.entry) dialling completing traffic written.text.items written.status) }
+        IsLive (plan_in plan.entry) markers.now.dialling markers.now.completing traffic
+        written.text.items written.status) }
     ensures place { IfOk result (λ written.
         IsRefusedPlan (plan_in plan.entry) → ShowsPlaceIn plan.entry written.diagnostic) }
-    ensures markers { (result ≡ Err EngineFault.Markers) ↔ ¬ IsLiveMarkerCount dialling completing }
     ensures device { result ≡ Err EngineFault.Device
         → HasFailed (R.failure_count source.old) (R.failure_count source.new) }
     ensures no_failure { result ≢ Err EngineFault.Device
         → R.failure_count source.new ≡ R.failure_count source.old }
     ensures long { result ≡ Err EngineFault.Long →
         ReadsUsedUp (R.read_count source.old) (R.read_count source.new) }
-    ensures unread { IsLiveUnread (plan_in plan.entry) dialling completing → source.new ≡ source.old }
-    ensures end { OnOk result (¬ IsLiveUnread (plan_in plan.entry) dialling completing
+    ensures unread { IsRefusedPlan (plan_in plan.entry) → source.new ≡ source.old }
+    ensures end { OnOk result (¬ IsRefusedPlan (plan_in plan.entry)
         → IsAtEnd (R.remaining source.new)) }
 {
-    if dialling == 0 || completing == 0 || dialling.saturating_add(completing) > MOST_MARKERS {
-        return Err(EngineFault::Markers);
-    }
     match read_input(alloc, plan, source)? {
-        Input::Read { plan, bytes } => Ok(live(
-            rt, alloc, &plan, dialling, completing, gates, &bytes,
-        )?),
+        Input::Read { plan, bytes } => Ok(live(rt, alloc, &plan, markers, gates, &bytes)?),
         Input::Refused(written) => Ok(written),
     }
 }
@@ -71,21 +62,19 @@ pub fn run_live<G: Gate + Send + Drop, T: Threads + Wait + Sync, R: Source, W: S
     rt: &T,
     alloc: Global,
     plan: PlanSource<'_>,
-    dialling: usize,
-    completing: usize,
+    markers: &CallMarkers,
     gates: Vec<G>,
     source: &mut R,
     sink: &mut W,
 ) -> Result<Status, EngineFault>
-    requires gates { vec_len gates ≡ dialling + completing }
+    requires gates { vec_len gates ≡ markers.now.dialling + markers.now.completing }
     requires for_markers { AreForMarkers G.IsAt gates.items }
     ensures live { IfOk result (λ status. (traffic text : List ℕ) ×
         IfSome (R.remaining source.old) (λ all. traffic ≡ all) ×
-        IsLive (plan_in plan.entry) dialling completing traffic text status ×
+        IsLive (plan_in plan.entry) markers.now.dialling markers.now.completing traffic text status ×
         Appends (W.contents sink.old) (W.contents sink.new) text) }
-    ensures markers { (result ≡ Err EngineFault.Markers) ↔ ¬ IsLiveMarkerCount dialling completing }
-    ensures unread { IsLiveUnread (plan_in plan.entry) dialling completing → source.new ≡ source.old }
-    ensures end { OnOk result (¬ IsLiveUnread (plan_in plan.entry) dialling completing
+    ensures unread { IsRefusedPlan (plan_in plan.entry) → source.new ≡ source.old }
+    ensures end { OnOk result (¬ IsRefusedPlan (plan_in plan.entry)
         → IsAtEnd (R.remaining source.new)) }
     ensures long { result ≡ Err EngineFault.Long →
         ReadsUsedUp (R.read_count source.old) (R.read_count source.new) }
@@ -98,7 +87,7 @@ pub fn run_live<G: Gate + Send + Drop, T: Threads + Wait + Sync, R: Source, W: S
         → (R.failure_count source.new ≡ R.failure_count source.old)
         × (W.failure_count sink.new ≡ W.failure_count sink.old) }
 {
-    let calls = do_live(rt, alloc, plan, dialling, completing, gates, source)?;
+    let calls = do_live(rt, alloc, plan, markers, gates, source)?;
     write_all(sink, &calls.text)?;
     Ok(calls.status)
 }

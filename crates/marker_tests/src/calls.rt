@@ -10,7 +10,7 @@ use std::process::Abort;
 use std::sync::Wait;
 use std::thread::Threads;
 use xbar_equip::{Dialled, Len};
-use xbar_markers::{Call, Gate, OpenGate, Outcome, run_calls};
+use xbar_markers::{Call, CallMarkers, Gate, OpenGate, Outcome, run_calls};
 use xbar_plan::Plan;
 
 mod doing;
@@ -52,7 +52,9 @@ fn run<'p, G: Gate + Send + Drop, R: Threads + Wait + Sync + Abort>(
     requires gates { vec_len gates ≡ workers.dialling + workers.completing }
     requires for_markers { AreForMarkers G.IsAt gates.items }
 {
-    let (dialling, completing) = (workers.dialling, workers.completing);
-    let outcome = run_calls(rt, alloc, plan, calls, dialling, completing, gates);
+    let Some(markers) = CallMarkers::new(workers.dialling, workers.completing) else {
+        panic!(rt; "these are markers for calls");
+    };
+    let outcome = run_calls(rt, alloc, plan, calls, &markers, gates);
     outcome.expect(rt, "the calls are done")
 }

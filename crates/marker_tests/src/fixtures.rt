@@ -9,7 +9,7 @@ use std::alloc::{AllocError, Global};
 use std::process::Abort;
 use test_tools::check_eq;
 use xbar_equip::{Dialled, Len, WORD_COUNT};
-use xbar_fabric::{Desk, Fabric, Kind};
+use xbar_fabric::{Desk, Fabric, Kind, Kinds};
 use xbar_office::{Job, Office, Record, audit};
 use xbar_plan::Plan;
 use xbar_plan_text::PlanText;
@@ -98,6 +98,16 @@ pub fn some_job(numbers: &mut Pcg32) -> Job {
     }
 }
 
+/// These kinds, of which there have to be 1 to 48.
+pub fn kinds_of(rt: &impl Abort, kinds: &[Kind]) -> Kinds
+    ensures { result ≡ kinds.now }
+{
+    let Some(kinds) = Kinds::new(kinds) else {
+        panic!(rt; "an office has 1 to 48 markers");
+    };
+    kinds
+}
+
 /// Opens shared words with a desk of each of these kinds.
 pub fn open_fabric<'p>(
     rt: &impl Abort,
@@ -108,7 +118,8 @@ pub fn open_fabric<'p>(
     ensures count { (result.0.count ≡ length kinds.now) × (vec_len result.1 ≡ length kinds.now) }
     ensures desks { AreDesksOf result.1.items result.0 }
 {
-    let Ok(opened) = Fabric::open(alloc, plan, kinds) else {
+    let kinds = kinds_of(rt, kinds);
+    let Ok(opened) = Fabric::open(alloc, plan, &kinds) else {
         panic!(rt; "an office is opened");
     };
     opened

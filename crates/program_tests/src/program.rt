@@ -1,8 +1,7 @@
 //! Whole runs of the program, on streams that may fail.
 
 use crossbar5::{Counted, Sink, Source};
-use crossbar5_cli::{Exit, System, run_words};
-use crossbar5_command::Work;
+use crossbar5_cli::{CheckedWork, Exit, System, run_words};
 use std::alloc::{AllocError, Global};
 use std::fs::File;
 use std::io;
@@ -53,7 +52,7 @@ impl System for PlanText {
         Ok(Counted::new(self.text.as_bytes()))
     }
 
-    fn begin(&self, _work: &Work) {}
+    fn begin(&self, _work: &CheckedWork) {}
 
     fn end(&self) {}
 }
@@ -71,7 +70,7 @@ impl System for RealFiles<'_> {
         Ok(Counted::new(File::open(self.rt, name)?))
     }
 
-    fn begin(&self, _work: &Work) {}
+    fn begin(&self, _work: &CheckedWork) {}
 
     fn end(&self) {}
 }

@@ -17,6 +17,15 @@ pub struct RowResult {
 }
 
 impl RowResult {
+    /// The result of a row whose markers are refused.
+    fn without_markers(alloc: Global) -> Result<Self, AllocError> {
+        Ok(RowResult {
+            text: String::from_str(alloc, "the markers are refused")?.into_bytes(),
+            status: 2,
+            diagnostic: None,
+        })
+    }
+
     /// Whether this is what the row expects. The sentence is compared only if the row has one.
     pub fn is_as_expected(&self, row: &Row<'_>) -> bool
         ensures { IsTrue result ↔ Agrees self.now row.now }
@@ -83,7 +92,9 @@ fn written(
     row: &Row<'_>,
     input: &[u8],
 ) -> Result<RowResult, EngineFault> {
-    let kinds = kinds_for(alloc, task, row.markers.as_bytes())?;
+    let Some(kinds) = kinds_for(task, row.markers.as_bytes()) else {
+        return Ok(RowResult::without_markers(alloc)?);
+    };
     let plan = PlanSource::Text(row.plan.as_bytes());
     let Written {
         text,

@@ -1,13 +1,12 @@
--- how far loops over steps, and over markers, have come
-use Rattle.std.proofs.Common.{◌≡◌, ℕ, suc, ◌+◌, ◌-◌, ◌<◌, ◌≤◌, length, refl, sym, ◌∙◌, ap, arith}
+-- how far a loop over steps has come
+use Rattle.std.proofs.Common.{◌≡◌, ℕ, ◌+◌, ◌-◌, ◌<◌, ◌≤◌, length, refl, sym, ◌∙◌, ap, arith}
 use Rattle.std.specs.Prelude.{Option, Some, None, slice_get, true}
 use Rattle.xbar_plan.specs.Tables.{Tables}
 use Rattle.xbar_moves.specs.Exchange.{Exchange, Marker, OfPlan, is_idle}
-use Rattle.xbar_moves.specs.Moves.{given_back, after_step, steps}
-use Rattle.xbar_moves.specs.Settling.{ended, ended_past_turn, for_each, settled}
+use Rattle.xbar_moves.specs.Moves.{after_step, steps}
 use Rattle.xbar_core.proofs.Ending.{steps_idle}
 use Rattle.xbar_moves.proofs.Markers.{none_within}
-use Rattle.xbar_moves.proofs.Keeping.{count_back, count_end, count_past, for_each_keeps, steps_keep}
+use Rattle.xbar_moves.proofs.Keeping.{steps_keep}
 use Rattle.xbar_core.proofs.LedSteps.{steps_then}
 use Rattle.xbar_moves.proofs.StepCases.{step_count}
 
@@ -63,56 +62,3 @@ none_ran first now k made none is = let zero_made : made ≡ 0 = omega arith in 
 pub one_made : (first now next : OfPlan) (k : ℕ) → now ≡ first → next ≡ record now { exchange = after_step now.plan k now.exchange } → next ≡ record first { exchange = steps first.plan k 1 first.exchange }
 unfolding steps
 one_made first now next k same is = is ∙ ap (λ (o : OfPlan). record o { exchange = after_step o.plan k o.exchange }) same
-
--- the first `made` markers were changed
-pub record AreChanged (change : Tables → ℕ → Exchange → Exchange) (first now : OfPlan) (made : ℕ) : Type 0 where
-  pub plan : now.plan ≡ first.plan
-  pub size : length now.exchange.markers ≡ length first.exchange.markers
-  pub is : now.exchange ≡ for_each (change first.plan) made first.exchange
-
-pub none_changed : (change : Tables → ℕ → Exchange → Exchange) (first : OfPlan) → AreChanged change first first 0
-unfolding for_each
-none_changed change first = record { plan = refl; size = refl; is = refl }
-
--- as many markers stay
-abbrev pub KeepsCount : (Tables → ℕ → Exchange → Exchange) → Type 0
-KeepsCount change = (plan : Tables) (k : ℕ) (e : Exchange) → length (change plan k e).markers ≡ length e.markers
-
-pub one_changed : (change : Tables → ℕ → Exchange → Exchange) → KeepsCount change → (first now next : OfPlan) (made : ℕ) → AreChanged change first now made → next ≡ record now { exchange = change now.plan made now.exchange } → AreChanged change first next (made + 1)
-unfolding for_each
-one_changed change keeps first now next made so_far is =
-    let more : suc made ≡ made + 1 = omega arith in
-    record {
-      plan = ap (λ (o : OfPlan). o.plan) is ∙ so_far.plan;
-      size = ap (λ (o : OfPlan). length o.exchange.markers) is ∙ keeps now.plan made now.exchange ∙ so_far.size;
-      is =
-          ap (λ (o : OfPlan). o.exchange) is ∙ ap (λ (p : Tables). change p made now.exchange) so_far.plan ∙ ap (change first.plan made) so_far.is
-          ∙ ap (λ (n : ℕ). for_each (change first.plan) n first.exchange) more;
-    }
-
--- steps to the end, ends past the turn and give backs do
-pub end_counts : KeepsCount ended
-end_counts plan k e = count_end plan k e
-
-pub past_counts : KeepsCount ended_past_turn
-past_counts plan k e = count_past plan k e
-
-pub back_counts : KeepsCount given_back
-back_counts plan k e = count_back plan k e
-
-each_counts : (change : Tables → ℕ → Exchange → Exchange) → KeepsCount change → (plan : Tables) (count : ℕ) (e : Exchange) → length (for_each (change plan) count e).markers ≡ length e.markers
-each_counts change keeps plan count e = for_each_keeps (λ (x : Exchange). length x.markers ≡ length e.markers) (change plan) (λ k x is. keeps plan k x ∙ is) count e refl
-
--- the three together are a settling
-abbrev after_each : (Tables → ℕ → Exchange → Exchange) → OfPlan → OfPlan
-after_each change o = record o { exchange = for_each (change o.plan) (length o.exchange.markers) o.exchange }
-
-pub settled_is : (first past given last : OfPlan) → past ≡ after_each ended_past_turn first → given ≡ after_each given_back past → last ≡ after_each ended given → last ≡ record first { exchange = settled first.plan first.exchange }
-settled_is first past given last one two three =
-    let n : ℕ = length first.exchange.markers in
-    let e : Exchange = for_each (ended_past_turn first.plan) n first.exchange in
-    let many = each_counts ended_past_turn past_counts first.plan n first.exchange in
-    let back : given ≡ record first { exchange = for_each (given_back first.plan) n e } =
-    two ∙ ap (after_each given_back) one ∙ ap (λ (count : ℕ). record first { exchange = for_each (given_back first.plan) count e }) many in
-    let same = each_counts given_back back_counts first.plan n e ∙ many in
-    three ∙ ap (after_each ended) back ∙ ap (λ (count : ℕ). record first { exchange = for_each (ended first.plan) count (for_each (given_back first.plan) n e) }) same

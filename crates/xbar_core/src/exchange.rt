@@ -1,27 +1,21 @@
 //! An office of many markers, as plain data.
 
-ghost use Rattle.std.specs.Prelude.{◌≡◌, ◌↔◌, ◌<◌, ◌≤◌, ◌⊎◌, ◌^◌, ℕ, IfOk, IfErr, OnOk, OnErr, Ok, Err, Some, None, true, length, map, slice_get};
+ghost use Rattle.std.specs.Prelude.{◌≡◌, ◌<◌, ◌≤◌, ◌⊎◌, ◌^◌, IfOk, IfErr, OnOk, OnErr, Ok, Err, Some, None, length, map, slice_get};
 ghost use Rattle.turns.specs.World.{Idle};
 ghost use Rattle.xbar_equip.specs.Word.{word_count};
 ghost use Rattle.xbar_moves.specs.AtWork.{IsBackingAt, withdraws_or_frees_at, is_turned, next_step_at};
-ghost use Rattle.xbar_core.specs.Ends.{Settles};
 ghost use Rattle.xbar_moves.specs.Exchange.{IsLawfulExchange, Marker as TheMarker, is_idle as is_idle_work, fresh_exchange};
 ghost use Rattle.xbar_moves.specs.Moves.{assigned, begun_anew, event_at_step, frees_left, given_at, given_back, refusal, after_step, steps};
-ghost use Rattle.xbar_moves.specs.Settling.{ended, ended_past_turn, for_each, settled};
 
 use crate::marker::Marker;
 use std::alloc::{AllocError, Global};
 use std::marker::Model;
 use xbar_equip::WORD_COUNT;
 use xbar_jobs::Step;
-use xbar_moves::{AssignFault, Event, Given, Kind, MOST_MARKERS, OpenFault};
+use xbar_moves::{AssignFault, Event, Given, Kind, Kinds};
 use xbar_office::laws::job_is_in_range;
 use xbar_office::{Job, Record};
 use xbar_plan::Plan;
-
-/// The most steps to the end of its job of a marker with no other in its way: two to withdraw and
-/// to try again, 18 frees, and the 114 of the job anew.
-const MOST_STEPS_ALONE: u32 = 134;
 
 /// An office of 1 to 48 markers, with its own words.
 #[derive(Debug, Drop)]
@@ -34,6 +28,7 @@ pub struct Exchange<'p> {
 
 impl<'p> Model for Exchange<'p> {
     ghost use Rattle.xbar_moves.specs.Exchange.{OfPlan};
+    ghost use Rattle.xbar_plan.specs.Lawful.{IsLawful};
     ghost use Rattle.xbar_core.specs.Standing.{HasRoom, IsExchange};
 
     ghost Value = { OfPlan };
@@ -48,7 +43,7 @@ impl<'p> Model for Exchange<'p> {
         (record { words = a.words.items; markers = a.markers.items; records = a.records.items })
         × HasRoom
         (record { words = a.words.items; markers = a.markers.items; records = a.records.items })
-        a.records.cap };
+        a.records.cap × IsLawful a.plan.now };
 }
 
 /// Idle markers of these kinds.
@@ -60,21 +55,15 @@ fn markers_of(alloc: Global, kinds: &[Kind]) -> Result<Vec<Marker>, AllocError>
 }
 
 impl<'p> Exchange<'p> {
-    /// Opens an office without paths, with an idle marker of each of these kinds. Fails with
-    /// `Markers` unless there are 1 to 48.
-    pub fn open(alloc: Global, plan: &'p Plan, kinds: &[Kind]) -> Result<Self, OpenFault>
-        ensures ok { IfOk result
+    /// Opens an office without paths, with an idle marker of each of these kinds.
+    pub fn open(alloc: Global, plan: &'p Plan, kinds: &Kinds) -> Result<Self, AllocError>
+        ensures { IfOk result
             (λ exchange. exchange
             ≡ record { plan = plan.now; exchange = fresh_exchange kinds.now }) }
-        ensures markers { (result ≡ Err OpenFault.Markers)
-            ↔ ¬ ((0 < length kinds.now) × (length kinds.now ≤ 48)) }
     {
-        if kinds.is_empty() || kinds.len() > MOST_MARKERS {
-            return Err(OpenFault::Markers);
-        }
         // Called only for its contract.
         xbar_plan::laws::every_plan_is_lawful(plan);
-        let markers = markers_of(alloc, kinds)?;
+        let markers = markers_of(alloc, kinds.as_slice())?;
         Ok(Exchange {
             plan,
             words: vec![in alloc; 0; WORD_COUNT]?,
@@ -165,6 +154,14 @@ impl<'p> Exchange<'p> {
         self.marker(marker).is_past_turn()
     }
 
+    /// What `give_back` returns now.
+    pub fn given(&self, marker: u32) -> Given
+        requires { marker < length self.now.exchange.markers }
+        ensures { result ≡ given_at self.now.exchange marker }
+    {
+        self.marker(marker).given()
+    }
+
     /// Whether the marker's next step withdraws a request, or frees a connector.
     pub fn withdraws_or_frees(&self, marker: u32) -> bool
         requires { marker < length self.now.exchange.markers }
@@ -198,8 +195,7 @@ impl<'p> Exchange<'p> {
         if let Some(fault) = self.refuses(marker, &job) {
             return Err(fault);
         }
-        // Called only for their contracts.
-        xbar_plan::laws::every_plan_is_lawful(self.plan);
+        // Called only for its contract.
         job_is_in_range(&job);
         // Each marker has at most one turn to come.
         self.records.reserve(self.markers.len())?;
@@ -213,8 +209,6 @@ impl<'p> Exchange<'p> {
         ensures { self.new
             ≡ record self.old { exchange = after_step self.old.plan marker self.old.exchange } }
     {
-        // Called only for its contract.
-        xbar_plan::laws::every_plan_is_lawful(self.plan);
         self.markers[marker as usize].advance(
             self.plan,
             marker,
@@ -230,8 +224,6 @@ impl<'p> Exchange<'p> {
             ≡ record self.old { exchange = after_step self.old.plan marker self.old.exchange } }
         ensures event { result ≡ event_at_step self.old.plan marker self.old.exchange }
     {
-        // Called only for its contract.
-        xbar_plan::laws::every_plan_is_lawful(self.plan);
         let own = &mut self.markers[marker as usize];
         let step = own.next_step();
         let words = self.words.as_mut_slice();
@@ -247,8 +239,6 @@ impl<'p> Exchange<'p> {
         ensures { self.new
             ≡ record self.old { exchange = begun_anew self.old.plan marker self.old.exchange } }
     {
-        // Called only for its contract.
-        xbar_plan::laws::every_plan_is_lawful(self.plan);
         self.markers[marker as usize].restart();
     }
 
@@ -273,7 +263,7 @@ impl<'p> Exchange<'p> {
             ≡ record self.old { exchange = given_back self.old.plan marker self.old.exchange } }
         ensures given { result ≡ given_at self.old.exchange marker }
     {
-        let given = self.marker(marker).given();
+        let given = self.given(marker);
         if let Given::Given = given {
             self.restart(marker);
             self.give_up(marker);
@@ -289,8 +279,6 @@ impl<'p> Exchange<'p> {
             ≡ record self.old { exchange = steps self.old.plan marker result self.old.exchange } }
         ensures most { result ≤ most }
     {
-        // Called only for its contract.
-        xbar_plan::laws::every_plan_is_lawful(self.plan);
         let words = self.words.as_mut_slice();
         self.markers[marker as usize].run(self.plan, marker, words, most)
     }
@@ -325,79 +313,5 @@ impl<'p> Exchange<'p> {
             }
             left -= self.some_steps(marker, left);
         }
-    }
-
-    /// Brings the marker to the end of its job, if no other is in its way.
-    fn end(&mut self, marker: u32)
-        requires { marker < length self.old.exchange.markers }
-        ensures { self.new
-            ≡ record self.old { exchange = ended self.old.plan marker self.old.exchange } }
-    {
-        self.steps(marker, MOST_STEPS_ALONE);
-    }
-
-    /// Brings the marker to the end of its job, if it is past its turn.
-    fn end_past_turn(&mut self, marker: u32)
-        requires { marker < length self.old.exchange.markers }
-        ensures { self.new ≡ record self.old {
-          exchange = ended_past_turn self.old.plan marker self.old.exchange;
-        } }
-    {
-        if self.marker(marker).is_past_turn() {
-            self.end(marker);
-        }
-    }
-
-    fn end_all_past_turn(&mut self)
-        ensures { self.new ≡ record self.old {
-          exchange =
-              for_each (ended_past_turn self.old.plan) (length self.old.exchange.markers)
-              self.old.exchange;
-        } }
-    {
-        for marker in 0..self.marker_count() {
-            self.end_past_turn(marker);
-        }
-    }
-
-    fn give_back_all(&mut self)
-        ensures { self.new ≡ record self.old {
-          exchange =
-              for_each (given_back self.old.plan) (length self.old.exchange.markers)
-              self.old.exchange;
-        } }
-    {
-        for marker in 0..self.marker_count() {
-            let _given = self.give_back(marker);
-        }
-    }
-
-    fn end_all(&mut self)
-        ensures { self.new ≡ record self.old {
-          exchange =
-              for_each (ended self.old.plan) (length self.old.exchange.markers)
-              self.old.exchange;
-        } }
-    {
-        for marker in 0..self.marker_count() {
-            self.end(marker);
-        }
-    }
-
-    /// Brings every job to its end, in the order of the markers' numbers: first the markers past
-    /// their turn end their jobs, then all others give back, and then each of them does its job
-    /// alone.
-    pub fn settle(&mut self)
-        ensures settled { self.new
-            ≡ record self.old { exchange = settled self.old.plan self.old.exchange } }
-        ensures settles { Settles self.old.plan self.old.exchange self.new.exchange }
-        ensures idle { (k : ℕ) (m : TheMarker) → slice_get self.new.exchange.markers k ≡ Some m →
-            is_idle_work m.work ≡ true }
-    {
-        // Called only for its contract.
-        xbar_plan::laws::every_plan_is_lawful(self.plan);
-        self.end_all_past_turn();
-        self.give_back_all();
-        self.end_all();
     }
 }

@@ -1,7 +1,7 @@
 //! Laws of giving back and of how jobs end. The other laws of every office are those of
 //! `xbar_moves`. Each function does nothing: its contract is the law.
 
-ghost use Rattle.std.specs.Prelude.{◌≡◌, ◌+◌, ◌<◌, ◌≤◌, ◌∷◌, ◌++◌, ◌≢◌, ℕ, List, [], length, slice_get, slice_index};
+ghost use Rattle.std.specs.Prelude.{◌≡◌, ◌+◌, ◌<◌, ◌≤◌, ◌∷◌, ◌++◌, ◌≢◌, ℕ, List, [], length, slice_get, slice_index, true};
 ghost use Rattle.turns.specs.Attempt.{begin_with};
 ghost use Rattle.turns.specs.declared.phase.Phase.{Phase};
 ghost use Rattle.xbar_equip.specs.declared.conn.Conn.{Conn};
@@ -13,7 +13,7 @@ ghost use Rattle.xbar_jobs.specs.Attempt.{Attempt};
 ghost use Rattle.xbar_jobs.specs.Jobs.{first_conn};
 ghost use Rattle.xbar_jobs.specs.Office.{office};
 ghost use Rattle.xbar_core.specs.Ends.{ComesToEnd, Settles, own_steps};
-ghost use Rattle.xbar_moves.specs.Exchange.{Exchange, IsLawfulExchange};
+ghost use Rattle.xbar_moves.specs.Exchange.{Exchange, IsLawfulExchange, Marker, is_idle};
 ghost use Rattle.xbar_moves.specs.Holding.{HasRequested, Holds, IsAt};
 ghost use Rattle.xbar_moves.specs.Moves.{event_at_step, given_at, given_back};
 ghost use Rattle.xbar_moves.specs.Runs.{Move, after_move, run_from};
@@ -73,10 +73,13 @@ pub fn jobs_past_their_turns_end()
 
 /// An office that settles brings each job to its end, in the order of the markers' numbers: first
 /// the markers past their turn run to their end, then all others give back, and then each runs to
-/// its end. Only one office can result.
+/// its end. Then all markers are idle. Only one office can result.
 pub fn settling_ends_all_jobs()
     ensures settles { (plan : Tables) (e : Exchange) → IsLawful plan → IsLawfulExchange plan e
         → Settles plan e (settled plan e) }
+    ensures idle { (plan : Tables) (e : Exchange) (k : ℕ) (m : Marker) → IsLawful plan
+        → IsLawfulExchange plan e → slice_get (settled plan e).markers k ≡ Some m
+        → is_idle m.work ≡ true }
     ensures one { (plan : Tables) (e other : Exchange) → Settles plan e other
         → IsLawful plan → IsLawfulExchange plan e → other ≡ settled plan e }
     ensures same { (plan : Tables) (e one other : Exchange)

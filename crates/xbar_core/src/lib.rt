@@ -5,7 +5,7 @@
 pub use exchange::Exchange;
 pub use marker::Marker;
 pub use work::Work;
-pub use xbar_moves::{AssignFault, Event, Given, Kind, MOST_MARKERS, OpenFault};
+pub use xbar_moves::{AssignFault, Event, Given, Kind, Kinds, MOST_MARKERS};
 
 mod exchange;
 pub mod laws;

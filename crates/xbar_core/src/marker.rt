@@ -100,26 +100,14 @@ impl Marker {
     pub fn given(&self) -> Given
         ensures { result ≡ given_by self.now.work }
     {
-        if self.is_idle() {
-            Given::Idle
-        } else if self.is_past_turn() {
-            Given::PastTurn
-        } else {
-            Given::Given
-        }
+        Given::of(self.is_idle(), self.is_past_turn())
     }
 
     /// Why the marker can't be assigned the job. None if it can.
     pub fn refuses(&self, job: &Job) -> Option<AssignFault>
         ensures { result ≡ refusal_of self.now job.now }
     {
-        if !self.is_idle() {
-            Some(AssignFault::NotIdle)
-        } else if self.kind.takes(job) {
-            None
-        } else {
-            Some(AssignFault::WrongKind)
-        }
+        self.kind.refuses(self.is_idle(), job)
     }
 
     /// Gives the marker a job under a number. It is at the job's beginning.

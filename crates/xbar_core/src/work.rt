@@ -162,23 +162,12 @@ impl Work {
         ensures { (a : Attempt) → step ≡ next_step a →
             result ≡ event_of marker self.now.job_no a self.now.program.attempt answer }
     {
-        match answer {
-            Answer::Held(holder) => Event::of_refusal(asked_by(step), holder),
-            Answer::Preferred(other) => Event::Preferred(other),
-            Answer::Done => {
-                if !self.is_done() {
-                    return Event::Moved;
-                }
-                match self.record(marker) {
-                    Some(record) => Event::Finished(record),
-                    None => Event::Moved,
-                }
-            }
-            Answer::Asked(_)
-            | Answer::Seized
-            | Answer::Again(_)
-            | Answer::Value(_)
-            | Answer::Turn(_) => Event::Moved,
+        if answer != Answer::Done || !self.is_done() {
+            return Event::of_answer(asked_by(step), answer);
+        }
+        match self.record(marker) {
+            Some(record) => Event::Finished(record),
+            None => Event::Moved,
         }
     }
 

@@ -1,14 +1,11 @@
 //! A desk's steps: one at a time, several that ask for no connector, or those of a give back.
 
-ghost use Rattle.std.specs.Prelude.{◌≡◌, ◌≢◌, ◌+◌, ◌<◌, ◌^◌, ℕ, false, option_to_list, true};
-ghost use Rattle.turns.specs.Attempt.{act, asked_in};
-ghost use Rattle.turns.specs.Runs.{is_finished};
+ghost use Rattle.std.specs.Prelude.{◌≡◌, ◌≢◌, ◌+◌, ◌<◌, ◌^◌, option_to_list};
 ghost use Rattle.desks.specs.Desks.{as_record};
 ghost use Rattle.desks.specs.Running.{NothingLeftPastTurn};
 ghost use Rattle.desks.specs.Watching.{watched_more};
-ghost use Rattle.xbar_jobs.specs.Attempt.{Attempt};
 ghost use Rattle.xbar_moves.specs.Exchange.{is_idle};
-ghost use Rattle.xbar_moves.specs.Moves.{event_of, given_by};
+ghost use Rattle.xbar_moves.specs.Moves.{given_by};
 ghost use Rattle.xbar_fabric.specs.Advances.{MarkerHasAdvanced, MarkerHasGivenBack, MarkerHasRun, IsAnswered};
 ghost use Rattle.xbar_fabric.specs.Histories.{turned_of};
 ghost use Rattle.xbar_fabric.specs.Views.{IsDeskOf, entered};
@@ -17,29 +14,10 @@ use crate::desk::Desk;
 use crate::fabric::Fabric;
 use crate::office::SharedOffices;
 use desk_attempts::asked;
-use desks::{JobRecord, Watch};
-use xbar_equip::Conn;
+use desks::{JobRecord, Progress, Watch};
 use xbar_jobs::Answer;
 use xbar_moves::{Event, Given};
 use xbar_office::{Job, Record, Reply};
-
-/// The outcome of a step after which something is left of the job, by the connector that it asked
-/// for, if it asked for one, and its answer.
-fn moved(asked: Option<Conn>, answer: Answer) -> Event
-    ensures { (k number : ℕ) (a after : Attempt) → asked ≡ asked_in a.phase →
-        is_finished (act after) ≡ false → result ≡ event_of k number a after answer }
-{
-    match answer {
-        Answer::Held(holder) => Event::of_refusal(asked, holder),
-        Answer::Preferred(other) => Event::Preferred(other),
-        Answer::Asked(_)
-        | Answer::Seized
-        | Answer::Again(_)
-        | Answer::Value(_)
-        | Answer::Turn(_)
-        | Answer::Done => Event::Moved,
-    }
-}
 
 /// A job's record in the office's form. Not inlined, so that a step that ends no job carries no
 /// record.
@@ -66,8 +44,6 @@ impl Desk {
         ensures same { self.new ≡ record (self.old) { work = self.new.work; seen = self.new.seen } }
         ensures answered { IsAnswered self.old self.new result }
     {
-        // Called only for its contract.
-        xbar_plan::laws::every_plan_is_lawful(fabric.plan);
         let answer = self.desk.step(&fabric.room, fabric.plan);
         // Called only for its contract, that what the desk has seen is legal.
         let _number = self.desk.number();
@@ -85,8 +61,6 @@ impl Desk {
         ensures reported { W.steps_watched watch.new ≡ watched_more result
             (W.steps_watched watch.old) }
     {
-        // Called only for its contract.
-        xbar_plan::laws::every_plan_is_lawful(fabric.plan);
         let made = self.desk.run(&fabric.room, fabric.plan, watch);
         // Called only for its contract, that what the desk has seen is legal.
         let _number = self.desk.number();
@@ -109,16 +83,14 @@ impl Desk {
         ensures same { self.new ≡ record (self.old) { work = self.new.work; seen = self.new.seen } }
         ensures advanced { MarkerHasAdvanced self.old self.new result }
     {
-        // Called only for its contract.
-        xbar_plan::laws::every_plan_is_lawful(fabric.plan);
         let Some((_, program)) = self.desk.doing() else {
             return Event::Idle;
         };
         let asked = asked::<SharedOffices, 42, 19>(program);
         match self.desk.advance(&fabric.room, fabric.plan) {
-            desks::Progress::Idle => Event::Idle,
-            desks::Progress::Moved(answer) => moved(asked, answer),
-            desks::Progress::Finished(reported) => Event::Finished(record_of(reported)),
+            Progress::Idle => Event::Idle,
+            Progress::Moved(answer) => Event::of_answer(asked, answer),
+            Progress::Finished(reported) => Event::Finished(record_of(reported)),
         }
     }
 

@@ -76,28 +76,18 @@ impl Desk {
     pub(crate) fn given(&self) -> Given
         ensures { result ≡ given_by self.now.work }
     {
-        if self.is_idle() {
-            return Given::Idle;
-        }
-        match self.desk.doing() {
-            Some((_, program)) if turn::<SharedOffices, 42, 19>(program).is_some() => {
-                Given::PastTurn
-            }
-            _ => Given::Given,
-        }
+        let is_past_turn = match self.desk.doing() {
+            Some((_, program)) => turn::<SharedOffices, 42, 19>(program).is_some(),
+            None => false,
+        };
+        Given::of(self.is_idle(), is_past_turn)
     }
 
     /// Why the marker can't be assigned the job. None if it can.
     fn refuses(&self, job: &Job) -> Option<AssignFault>
         ensures { result ≡ refusal_of (marker_of self.now) job.now }
     {
-        if !self.is_idle() {
-            Some(AssignFault::NotIdle)
-        } else if self.kind.takes(job) {
-            None
-        } else {
-            Some(AssignFault::WrongKind)
-        }
+        self.kind.refuses(self.is_idle(), job)
     }
 
     /// Assigns the marker a job under a number, or returns the first reason why not: `NotIdle`

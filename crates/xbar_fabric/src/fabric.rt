@@ -1,4 +1,4 @@
-ghost use Rattle.std.specs.Prelude.{◌≡◌, ◌≤◌, ◌<◌, ◌↔◌, Err, IfOk, [], length, vec_capacity};
+ghost use Rattle.std.specs.Prelude.{◌≡◌, ◌≤◌, ◌<◌, IfOk, [], length, vec_capacity};
 ghost use Rattle.desks.specs.Views.{AreNew};
 ghost use Rattle.xbar_fabric.specs.Meetings.{AreAllIdle};
 ghost use Rattle.xbar_fabric.specs.Views.{AreDesksOf, new_desks};
@@ -6,9 +6,9 @@ ghost use Rattle.xbar_fabric.specs.Views.{AreDesksOf, new_desks};
 use crate::desk::Desk;
 use crate::office::Office;
 use desks::Room;
-use std::alloc::Global;
+use std::alloc::{AllocError, Global};
 use std::marker::Model;
-use xbar_moves::{Kind, MOST_MARKERS, OpenFault};
+use xbar_moves::{Kind, Kinds};
 use xbar_plan::Plan;
 
 /// The office's shared words, under a plan. Threads share it by reference.
@@ -20,13 +20,15 @@ pub struct Fabric<'p> {
 
 impl<'p> Model for Fabric<'p> {
     ghost use Rattle.std.specs.Prelude.{◌≡◌, ◌<◌};
+    ghost use Rattle.xbar_plan.specs.Lawful.{IsLawful};
     ghost use Rattle.xbar_fabric.specs.Views.{FabricView};
 
     ghost Value = { FabricView };
 
     ghost view = { λ f. record { table = f.room.table; plan = f.plan.now; count = f.room.count } };
 
-    ghost invariant = { λ f. (f.room.setting ≡ f.plan.now) × (0 < f.room.count) };
+    ghost invariant = { λ f. (f.room.setting ≡ f.plan.now) × (0 < f.room.count)
+        × IsLawful f.plan.now };
 }
 
 /// Makes the office's desks of a room's new desks, with these kinds.
@@ -49,24 +51,20 @@ fn assort(room: &Room<Office>, rest: Vec<desks::Desk<Office>>, kinds: &[Kind], a
 
 impl<'p> Fabric<'p> {
     /// Opens the shared words, all of them 0, with an idle desk of each of these kinds: desk `k`
-    /// is that of marker `k`. Fails with `Markers` unless there are 1 to 48.
+    /// is that of marker `k`.
     #[tactic(auto, using(crate::proofs::NewDesks::new_are_theirs))]
     pub fn open(
         alloc: Global,
         plan: &'p Plan,
-        kinds: &[Kind],
-    ) -> Result<(Self, Vec<Desk>), OpenFault>
+        kinds: &Kinds,
+    ) -> Result<(Self, Vec<Desk>), AllocError>
         ensures fabric { IfOk result
             (λ opened. (opened.0.plan ≡ plan.now) × (opened.0.count ≡ length kinds.now)) }
         ensures desks { IfOk result (λ opened. opened.1.items ≡ new_desks opened.0 0 kinds.now) }
         ensures theirs { IfOk result (λ opened. AreDesksOf opened.1.items opened.0) }
         ensures idle { IfOk result (λ opened. AreAllIdle opened.1.items opened.0) }
-        ensures markers { (result ≡ Err OpenFault.Markers)
-            ↔ ¬ ((0 < length kinds.now) × (length kinds.now ≤ 48)) }
     {
-        if kinds.is_empty() || kinds.len() > MOST_MARKERS {
-            return Err(OpenFault::Markers);
-        }
+        let kinds = kinds.as_slice();
         // Called only for its contract.
         xbar_plan::laws::every_plan_is_lawful(plan);
         let (room, rest) = Room::open(alloc, plan, kinds.len() as u32)?;

@@ -8,7 +8,7 @@ pub use meeting::meet;
 pub use note::Note;
 pub use shutting::{ShutAllFault, ShutFault, shut, shut_all};
 pub use xbar_jobs::Answer;
-pub use xbar_moves::{AssignFault, Event as Progress, Given, Kind, OpenFault};
+pub use xbar_moves::{AssignFault, Event, Given, Kind, Kinds};
 
 mod advancing;
 mod desk;

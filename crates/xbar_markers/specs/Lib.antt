@@ -5,6 +5,7 @@ pub mod Tasks
 pub mod Work
 pub mod Shares
 pub mod ThreadStates
+pub mod CallMarkers
 pub mod DesksByKind
 pub mod Handing
 pub mod Outcomes

@@ -1,17 +1,17 @@
 //! Calls in, and one legal history of exactly these calls out.
 
-ghost use Rattle.std.specs.Prelude.{◌≡◌, ◌+◌, ◌≤◌, ◌<◌, ◌↔◌, Err, All, IfOk, vec_len};
+ghost use Rattle.std.specs.Prelude.{◌≡◌, ◌+◌, All, IfOk, vec_len};
 ghost use Rattle.xbar_markers.specs.Calls.{HasCallNo};
 ghost use Rattle.xbar_markers.specs.Gates.{AreForMarkers};
 ghost use Rattle.xbar_markers.specs.Outcomes.{IsOutcome};
 
 use crate::call::Call;
+use crate::call_markers::CallMarkers;
 use crate::gate::Gate;
 use crate::opening::open_desks;
-use crate::run_fault::RunFault;
 use crate::running::run_desks;
 use fair_queue::laws::same_items_are_as_many;
-use std::alloc::Global;
+use std::alloc::{AllocError, Global};
 use std::sync::Wait;
 use std::thread::Threads;
 use xbar_fabric::shut_all;
@@ -29,36 +29,32 @@ pub struct Outcome<'p> {
     pub words: Vec<u64>,
 }
 
-/// Does calls with `dialling` markers that dial and `completing` markers that complete calls, each
-/// on its own thread. Gate `k` is for marker `k`, and the first markers are those that dial. The
-/// calls' numbers should be distinct, so that their jobs' are. Fails with `Markers` unless there is
-/// at least one of each and at most 48 in all.
+/// Does calls with these markers, each on its own thread. Gate `k` is for marker `k`. The calls'
+/// numbers should be distinct, so that their jobs' are.
 pub fn run_calls<'p, G: Gate + Send + Drop, R: Threads + Wait + Sync>(
     rt: &R,
     alloc: Global,
     plan: &'p Plan,
     calls: &[Call],
-    dialling: usize,
-    completing: usize,
+    markers: &CallMarkers,
     gates: Vec<G>,
-) -> Result<Outcome<'p>, RunFault>
+) -> Result<Outcome<'p>, AllocError>
     requires call_nos { All HasCallNo calls.now }
-    requires gates { vec_len gates ≡ dialling + completing }
+    requires gates { vec_len gates ≡ markers.now.dialling + markers.now.completing }
     requires for_markers { AreForMarkers G.IsAt gates.items }
-    ensures outcome { IfOk result (IsOutcome plan.now dialling completing calls.now) }
-    ensures markers { (result ≡ Err RunFault.Markers)
-        ↔ ¬ ((0 < dialling) × (0 < completing) × (dialling + completing ≤ 48)) }
+    ensures { IfOk result
+        (IsOutcome plan.now markers.now.dialling markers.now.completing calls.now) }
 {
     // Called only for its contract.
     same_items_are_as_many::<Record>();
-    let (fabric, desks) = open_desks(alloc, plan, dialling, completing)?;
+    let (fabric, desks) = open_desks(alloc, plan, markers)?;
     let (desks, records) = run_desks(rt, alloc, &fabric, desks, calls, gates)?;
     let Ok(words) = shut_all(alloc, fabric, desks) else {
-        return Err(RunFault::Memory);
+        return Err(AllocError);
     };
     // Legal records have no fault: what an audit of them may lack is memory.
     let Ok(office) = audit(alloc, plan, records.as_slice()) else {
-        return Err(RunFault::Memory);
+        return Err(AllocError);
     };
     Ok(Outcome {
         records,

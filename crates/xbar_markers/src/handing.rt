@@ -12,7 +12,7 @@ ghost use Rattle.xbar_markers.specs.Work.{WorkerHasStepped};
 use crate::worker::yield_once_given_back;
 use std::sync::Wait;
 use std::thread::{Threads, join};
-use xbar_fabric::{AssignFault, Desk, Fabric, Given, Progress};
+use xbar_fabric::{AssignFault, Desk, Event, Fabric, Given};
 use xbar_office::{Job, Record};
 
 /// What the second worker does with a job that the first has not finished.
@@ -45,7 +45,7 @@ fn make_step(fabric: &Fabric, desk: &mut Desk) -> Option<Record>
     ensures { WorkerHasStepped desk.old desk.new result }
 {
     let was_giving_back = desk.is_giving_back();
-    if let Progress::Finished(record) = desk.advance(fabric) {
+    if let Event::Finished(record) = desk.advance(fabric) {
         return Some(record);
     }
     yield_once_given_back(desk, was_giving_back);

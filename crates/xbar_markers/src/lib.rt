@@ -2,15 +2,16 @@
 #![tactic(auto)]
 
 pub use call::Call;
+pub use call_markers::CallMarkers;
 pub use call_records::CallRecords;
 pub use calling::{Outcome, run_calls};
 pub use gate::{Gate, OpenGate};
 pub use handing::{HandFault, Handed, Then, hand_over};
 pub use opening::open_desks;
-pub use run_fault::RunFault;
 pub use running::run_desks;
 
 mod call;
+mod call_markers;
 mod call_records;
 mod calling;
 mod completing;
@@ -23,7 +24,6 @@ mod handing;
 mod lists;
 mod opening;
 mod queues;
-mod run_fault;
 mod running;
 mod share;
 mod stages;

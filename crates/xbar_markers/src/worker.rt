@@ -30,8 +30,8 @@ fn is_refusal(answer: Option<Answer>) -> bool {
 
 /// Yields to other threads once a desk that was denied a connector has given back all that it
 /// held, so that nobody waits for it meanwhile. Returns whether the desk has yet to do so.
-pub fn yield_once_given_back(desk: &Desk, was_put_off: bool) -> bool {
-    if !was_put_off {
+pub fn yield_once_given_back(desk: &Desk, was_giving_back: bool) -> bool {
+    if !was_giving_back {
         return false;
     }
     if desk.is_giving_back() {
@@ -78,7 +78,7 @@ impl<G: Gate + Drop> Worker<Desk, G> {
         let Ok(()) = self.desk.assign(job_no, job) else {
             unreachable!()
         };
-        let mut is_put_off = false;
+        let mut is_giving_back = false;
         for _ in rt.forever() {
             let answer = self.go_on(fabric);
             // Asked for only now, since otherwise each step would carry room for a record.
@@ -91,7 +91,8 @@ impl<G: Gate + Drop> Worker<Desk, G> {
                 self.gate.finish(job_no);
                 return record;
             }
-            is_put_off = is_refusal(answer) || yield_once_given_back(&self.desk, is_put_off);
+            is_giving_back = is_refusal(answer)
+                || yield_once_given_back(&self.desk, is_giving_back);
         }
         unreachable!()
     }

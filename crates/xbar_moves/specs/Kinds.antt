@@ -1,4 +1,4 @@
-use Rattle.std.specs.Prelude.{Bool, true, false}
+use Rattle.std.specs.Prelude.{ℕ, ◌<◌, ◌≤◌, Bool, true, false, List, [], ◌∷◌}
 use Rattle.xbar_office.specs.declared.job.Job.{Job}
 use Rattle.xbar_office.specs.declared.job.Job.TheVariants as job
 use Rattle.xbar_moves.specs.declared.kind.Kind.{Kind}
@@ -13,3 +13,11 @@ takes kind.Dial (job.Release line) = false
 takes kind.Completing (job.Dial line) = false
 takes kind.Completing (job.Complete line dialled) = true
 takes kind.Completing (job.Release line) = true
+
+-- an office has 1 to 48 markers
+abbrev pub IsMarkerCount : ℕ → Type 0
+IsMarkerCount count = (0 < count) × (count ≤ 48)
+
+-- two markers that take all jobs
+abbrev pub combined_pair : List Kind
+combined_pair = kind.Combined ∷ kind.Combined ∷ []

@@ -20,15 +20,20 @@ use Rattle.xbar_moves.specs.declared.event.Event.{Event}
 use Rattle.xbar_moves.specs.declared.event.Event.TheVariants as event
 use Rattle.xbar_moves.specs.declared.given.Given.{Given}
 use Rattle.xbar_moves.specs.declared.given.Given.TheVariants as given
+use Rattle.xbar_moves.specs.declared.kind.Kind.{Kind}
 
 -- the office once marker k has this work
 abbrev pub with_work : ℕ → Marker → Work → Exchange → Exchange
 with_work k m work e = record e { markers = slice_set e.markers k (record m { work = work }) }
 
+-- why a marker of this kind, idle or not, can't be assigned a job
+abbrev pub fault_by : Bool → Kind → Job → Option AssignFault
+fault_by idle kind job =
+    if idle then (if takes kind job then None else Some WrongKind) else Some NotIdle
+
 -- why this marker can't be assigned a job: it isn't idle, or it takes no jobs of this kind
 abbrev pub refusal_of : Marker → Job → Option AssignFault
-refusal_of m job =
-    if is_idle m.work then (if takes m.kind job then None else Some WrongKind) else Some NotIdle
+refusal_of m job = fault_by (is_idle m.work) m.kind job
 
 -- why marker k can't be assigned a job: there is no marker of this number, or that one can't
 abbrev pub refusal : Exchange → ℕ → Job → Option AssignFault
@@ -137,13 +142,14 @@ abbrev pub begun_anew : Tables → ℕ → Exchange → Exchange
 begun_anew plan k e =
     at_marker e (λ m. with_work k m (work_anew plan m.work) e) (slice_get e.markers k)
 
+-- the outcome of asking a marker to give back, which is idle or not, and past its turn or not
+abbrev pub given_if : Bool → Bool → Given
+given_if idle past = if idle then given.Idle else (if past then given.PastTurn else given.Given)
+
 -- whether a marker gives back: not past its turn, and not if it is idle
 abbrev pub given_by : Work → Given
 given_by work =
-    on_job given.Idle (λ number a.
-    if is_finished (act a) then given.Idle
-    else (if is_some (turn_in a.phase) then given.PastTurn else given.Given))
-    work
+    on_job given.Idle (λ number a. given_if (is_finished (act a)) (is_some (turn_in a.phase))) work
 
 -- whether marker k gives back
 abbrev pub given_at : Exchange → ℕ → Given

@@ -1,4 +1,5 @@
 use xbar_equip::Conn;
+use xbar_jobs::Answer;
 use xbar_office::Record;
 
 /// The outcome of a marker's step.
@@ -23,17 +24,39 @@ pub enum Event {
 }
 
 impl Event {
-    ghost use Rattle.std.specs.Prelude.{◌≡◌};
-    ghost use Rattle.xbar_moves.specs.Moves.{refused_by};
+    ghost use Rattle.std.specs.Prelude.{◌≡◌, ℕ, false};
+    ghost use Rattle.turns.specs.Attempt.{act, asked_in};
+    ghost use Rattle.turns.specs.Runs.{is_finished};
+    ghost use Rattle.xbar_jobs.specs.Attempt.{Attempt};
+    ghost use Rattle.xbar_moves.specs.Moves.{event_of, refused_by};
 
     /// The outcome of a step that found the connector that it asked for held by `holder`. `Moved`
     /// if it asked for none.
-    pub fn of_refusal(asked: Option<Conn>, holder: u32) -> Self
+    fn of_refusal(asked: Option<Conn>, holder: u32) -> Self
         ensures { result ≡ refused_by holder asked }
     {
         match asked {
             Some(conn) => Event::Refused { conn, holder },
             None => Event::Moved,
+        }
+    }
+
+    /// The outcome of a step by its answer, unless it was the last of its job. `asked` is the
+    /// connector that it requested or tried to seize, if any.
+    pub fn of_answer(asked: Option<Conn>, answer: Answer) -> Self
+        ensures { (k number : ℕ) (a after : Attempt) → asked ≡ asked_in a.phase
+            → (answer ≡ Answer.Done → is_finished (act after) ≡ false)
+            → result ≡ event_of k number a after answer }
+    {
+        match answer {
+            Answer::Held(holder) => Event::of_refusal(asked, holder),
+            Answer::Preferred(other) => Event::Preferred(other),
+            Answer::Asked(_)
+            | Answer::Seized
+            | Answer::Again(_)
+            | Answer::Value(_)
+            | Answer::Turn(_)
+            | Answer::Done => Event::Moved,
         }
     }
 }

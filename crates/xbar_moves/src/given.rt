@@ -8,3 +8,21 @@ pub enum Given {
     /// The marker has no job, or nothing is left of it.
     Idle,
 }
+
+impl Given {
+    ghost use Rattle.std.specs.Prelude.{◌≡◌};
+    ghost use Rattle.xbar_moves.specs.Moves.{given_if};
+
+    /// The outcome for a marker that is idle or not, and past its turn or not.
+    pub fn of(is_idle: bool, is_past_turn: bool) -> Self
+        ensures { result ≡ given_if is_idle is_past_turn }
+    {
+        if is_idle {
+            Given::Idle
+        } else if is_past_turn {
+            Given::PastTurn
+        } else {
+            Given::Given
+        }
+    }
+}

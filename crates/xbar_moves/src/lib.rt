@@ -6,11 +6,11 @@ pub use assign_fault::AssignFault;
 pub use event::Event;
 pub use given::Given;
 pub use kind::Kind;
-pub use open_fault::{MOST_MARKERS, OpenFault};
+pub use kinds::{Kinds, MOST_MARKERS};
 
 mod assign_fault;
 mod event;
 mod given;
 mod kind;
+mod kinds;
 pub mod laws;
-mod open_fault;

@@ -1,7 +1,8 @@
-ghost use Rattle.std.specs.Prelude.{◌≡◌, ◌+◌, ◌||◌, ℕ, Ok, IfOk, true, option_map, vec_len};
+ghost use Rattle.std.specs.Prelude.{◌≡◌, ◌+◌, ◌||◌, ℕ, All, Ok, IfOk, true, option_map, vec_len};
 ghost use Rattle.csv.specs.Records.{fields_of};
 ghost use Rattle.csv.specs.Reading.{default_config, records, strip_bom, stops_reader, error_kind};
 ghost use Rattle.xbar_traffic.specs.Numbers.{contains};
+ghost use Rattle.xbar_traffic.specs.Row.{IsRow, mode_of};
 ghost use Rattle.xbar_traffic.specs.Traffic.{IsJudgedAs, IsTrafficOf, has_number};
 
 use crate::fault::{RowFault, TrafficFault};
@@ -22,8 +23,11 @@ pub struct Traffic {
 impl Traffic {
     /// Reads bytes as the whole of some traffic, whose rows must belong to this mode.
     pub fn read(alloc: Global, mode: Mode, bytes: &[u8]) -> Result<Traffic, AllocError>
-        ensures { IfOk result (λ traffic. IsTrafficOf mode
+        ensures traffic { IfOk result (λ traffic. IsTrafficOf mode
             (records default_config (strip_bom bytes.now)) traffic.rows.items traffic.fault) }
+        ensures range { IfOk result (λ traffic. All IsRow traffic.rows.items) }
+        ensures mode { IfOk result
+            (λ traffic. All (λ row. mode_of row ≡ mode) traffic.rows.items) }
     {
         let mut reader = ReaderBuilder::new()
             .has_headers(false)

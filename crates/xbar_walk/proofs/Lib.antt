@@ -6,4 +6,4 @@ pub mod TellingRuns
 pub mod Finding
 pub mod Joining
 pub mod Storytelling
-pub mod Reaching
+pub mod Observing

@@ -1,311 +1,193 @@
--- the invariants of settling step by step, and the office that it gives
-use Rattle.std.proofs.Common.{◌≡◌, ℕ, zero, suc, ◌+◌, ◌<◌, Bool, true, false, [], ◌∷◌, ◌++◌, length, length-set, refl, sym, ◌∙◌, ap, subst, arith}
+-- how far a settling has come
+use Rattle.std.proofs.Common.{◌≡◌, ℕ, suc, ◌+◌, ◌<◌, Bool, true, false, List, [], ◌∷◌, ◌++◌, length, length-set, refl, sym, ◌∙◌, ap, subst, arith}
 use Rattle.std.specs.Prelude.{Option, Some, None, is_some, if◌then◌else◌, slice_get}
 use Rattle.turns.specs.Attempt.{turn_in}
 use Rattle.turns.specs.World.{Idle, Does}
 use Rattle.xbar_plan.specs.Tables.{Tables}
 use Rattle.xbar_jobs.specs.Attempt.{next_step}
 use Rattle.xbar_moves.specs.AtWork.{IsBackingAt, withdraws_or_frees, withdraws_or_frees_at, is_turned}
-use Rattle.xbar_moves.specs.Exchange.{Exchange, Marker, OfPlan, Work, at_marker, is_idle, on_job}
-use Rattle.xbar_moves.specs.Moves.{backed_as, begun_anew, frees_left, given_at, given_back, given_by, after_step, steps}
-use Rattle.xbar_moves.specs.Settling.{ended, ended_past_turn, for_each, most_steps_alone, settled}
+use Rattle.xbar_moves.specs.Exchange.{Exchange, Marker, OfPlan, Work, at_marker, on_job}
+use Rattle.xbar_moves.specs.Moves.{begun_anew, frees_left, given_at, given_back, steps}
+use Rattle.xbar_moves.specs.Settling.{ended, ended_past_turn, for_each, settled}
 use Rattle.xbar_moves.specs.declared.given.Given.{Given}
 use Rattle.xbar_moves.specs.declared.given.Given.TheVariants as given
-use Rattle.xbar_moves.proofs.Backing.{IsBacking, GaveUp, anew, backing, gave_up, none_left}
-use Rattle.xbar_moves.proofs.Jobs.{given_is}
-use Rattle.xbar_moves.proofs.Keeping.{begun_keeps, count_back, count_end, count_past}
-use Rattle.xbar_moves.proofs.Markers.{none_within}
-use Rattle.xbar_walk.specs.Walks.{Walk, walk_of_step, is_past_turn_in, to_begin_anew, walk_of_rollback, walk_of_end, walk_of_end_past_turn, walk_for_each, walk_of_give_back, walk_of_settling, walk_of_steps}
-use Rattle.xbar_walk.specs.Items.{settling_item}
-use Rattle.xbar_walk.specs.Parts.{walk_of_part}
-use Rattle.xbar_walk.specs.Stories.{Adds, AgreesWith, ChangesAs}
+use Rattle.xbar_moves.proofs.Backing.{IsBacking, IsGivingUp, anew, all_given, back_goes, backing, gave_up, none_given, none_left, one_given}
+use Rattle.xbar_moves.proofs.Jobs.{work_at}
+use Rattle.xbar_moves.proofs.Keeping.{begun_keeps, count_back, count_end, count_past, for_each_keeps}
+use Rattle.xbar_walk.specs.Items.{Item, settling_item}
+use Rattle.xbar_walk.specs.Observers.{Adds, AgreesWith, ChangesAs}
+use Rattle.xbar_walk.specs.Parts.{after_part, walk_of_part}
+use Rattle.xbar_walk.specs.Walks.{Walk, is_past_turn_in, to_begin_anew, walk_for_each, walk_of_give_back, walk_of_rollback, walk_of_settling, walk_of_steps}
+use Rattle.xbar_walk.specs.declared.detail.Detail.{Detail}
 use Rattle.xbar_walk.specs.declared.settling.Part.{Part}
 use Rattle.xbar_walk.specs.declared.settling.Part.TheVariants.{EndPastTurn, GiveBack, End}
-use Rattle.xbar_walk.specs.declared.story.Story.{Story}
-use Rattle.xbar_walk.proofs.Reaching.{Reaches, own_stands, own_walk}
-use Rattle.xbar_walk.proofs.ToldSteps.{told_count, told_office}
+use Rattle.xbar_walk.proofs.ToldSteps.{walk_then}
 
--- the marker of a number that there is
-found_by : (e : Exchange) (k : ℕ) (Has : Type 0) → k < length e.markers → ((m : Marker) → slice_get e.markers k ≡ Some m → Has) → Has
-found_by e k Has within there = by (slice_get e.markers k) refl where
-  by : (found : Option Marker) → slice_get e.markers k ≡ found → Has
-  by None none = absurd (none_within e.markers k within none)
-  by (Some m) is = there m is
+-- the office once marker k is brought to its end if it is past its turn
+module _ (plan : Tables) (k : ℕ) (e : Exchange) where
+  abbrev ended_if : Bool → Exchange
+  ended_if past = if past then ended plan k e else e
 
--- whether a marker is past its turn, by what an exchange answers
-pub past_is : (e : Exchange) (k : ℕ) (past : Bool) → k < length e.markers → ((m : Marker) → slice_get e.markers k ≡ Some m → past ≡ is_turned m.work) → is_past_turn_in e k ≡ past
-past_is e k past within is = found_by e k (is_past_turn_in e k ≡ past) within (λ m there. ap (at_marker false (λ o. is_turned o.work)) there ∙ sym (is m there))
+  past_by : (work : Work) → on_job e (λ n a. ended_if (is_some (turn_in a.phase))) work ≡ ended_if (is_turned work)
+  past_by Idle = refl
+  past_by (Does n a) = refl
 
-module _ (k : ℕ) (w : Walk) where
-  pub past_ends : is_past_turn_in w.office.exchange k ≡ true → walk_of_end_past_turn k w ≡ walk_of_end k w
-  past_ends past = ap (λ (b : Bool). if b then walk_of_end k w else w) past
+  past_of : (found : Option Marker) → at_marker e (λ m. on_job e (λ n a. ended_if (is_some (turn_in a.phase))) m.work) found ≡ ended_if (at_marker false (λ m. is_turned m.work) found)
+  past_of None = refl
+  past_of (Some m) = past_by m.work
 
-  pub other_stays : is_past_turn_in w.office.exchange k ≡ false → walk_of_end_past_turn k w ≡ w
-  other_stays past = ap (λ (b : Bool). if b then walk_of_end k w else w) past
+  pub past_ended : (past : Bool) → is_past_turn_in e k ≡ past → ended_past_turn plan k e ≡ ended_if past
+  past_ended past is = past_of (slice_get e.markers k) ∙ ap ended_if is
 
--- what a marker answers if it is asked to give back
-abbrev pub answer : Bool → Bool → Given
-answer idle past = if idle then given.Idle else (if past then given.PastTurn else given.Given)
+-- a marker gives up what it holds: it has made some steps, and has so many less to make
+pub record HasGivenUp {O : Type 0} (Describes : O → Detail → ℕ → List Item → Type 0) (first : OfPlan) (observer : O) (now : OfPlan) (observed : O) (k : ℕ) : Type 0 where
+  pub office : IsGivingUp first now k
+  pub made : ℕ
+  pub less : made + frees_left now.exchange k ≡ frees_left first.exchange k
+  pub seen : ChangesAs Describes (walk_of_steps k made) first observer now observed
 
-given_of : (work : Work) (idle past : Bool) → is_idle work ≡ idle → is_turned work ≡ past → given_by work ≡ answer idle past
-given_of Idle idle past is also = ap (λ (b : Bool). answer b past) is
-given_of (Does n a) idle past is also = ap (λ (b : Bool). answer b (is_some (turn_in a.phase))) is ∙ ap (answer idle) also
+pub none_up : {O : Type 0} (Describes : O → Detail → ℕ → List Item → Type 0) (first : OfPlan) (observer : O) (k : ℕ) → IsBackingAt (slice_get first.exchange.markers k) → HasGivenUp Describes first observer first observer k
+unfolding walk_of_steps
+none_up Describes first observer k backs = record { office = none_given first k backs; made = 0; less = omega arith; seen = λ w agrees. agrees }
 
--- the same by what an exchange answers
-pub given_as : (e : Exchange) (k : ℕ) (idle past : Bool) → k < length e.markers → ((m : Marker) → slice_get e.markers k ≡ Some m → idle ≡ is_idle m.work)
-    → ((m : Marker) → slice_get e.markers k ≡ Some m → past ≡ is_turned m.work) → given_at e k ≡ answer idle past
-given_as e k idle past within is also =
-    found_by e k (given_at e k ≡ answer idle past) within
-    (λ m there. given_is e k m there ∙ given_of m.work idle past (sym (is m there)) (sym (also m there)))
+module _ {O : Type 0} (Describes : O → Detail → ℕ → List Item → Type 0) (first now : OfPlan) (observer observed : O) (k : ℕ) (so_far : HasGivenUp Describes first observer now observed k) where
+  module _ (m : Marker) (there : slice_get now.exchange.markers k ≡ Some m) where
+    back : IsBacking now.exchange k
+    back = backing now.exchange k so_far.office.backs
 
-pub idle_given : (e : Exchange) (k : ℕ) → k < length e.markers → ((m : Marker) → slice_get e.markers k ≡ Some m → true ≡ is_idle m.work) → given_at e k ≡ given.Idle
-idle_given e k within is =
-    found_by e k (given_at e k ≡ given.Idle) within
-    (λ m there. given_is e k m there ∙ given_of m.work true (is_turned m.work) (sym (is m there)) refl)
+    next_up : withdraws_or_frees (next_step back.attempt) ≡ withdraws_or_frees_at m.work
+    next_up = ap withdraws_or_frees_at (sym (work_at now.exchange k back.number back.attempt m back.at there))
 
-module _ (k : ℕ) (w : Walk) where
-  -- giving back, by the marker's answer
-  pub given_tells : (what : Given) → given_at w.office.exchange k ≡ what → walk_of_give_back k w ≡ walk_of_rollback what k w
-  unfolding walk_of_give_back
-  given_tells what is = ap (λ (what : Given). walk_of_rollback what k w) is
+    pub one_up : (next : OfPlan) (more : O) → withdraws_or_frees_at m.work ≡ true → next ≡ record now { exchange = steps now.plan k 1 now.exchange } → ChangesAs Describes (walk_of_steps k 1) now observed next more
+        → HasGivenUp Describes first observer next more k × (frees_left next.exchange k < frees_left now.exchange k)
+    unfolding steps
+    one_up next more goes is changes =
+        let gave = gave_up now.plan now.exchange k back (next_up ∙ goes) in
+        let left = ap (λ (o : OfPlan). frees_left o.exchange k) is in (
+          record {
+            office = one_given first now next k m there so_far.office goes is;
+            made = so_far.made + 1;
+            less = omega (arith, so_far.less, gave.one, left);
+            seen = λ w agrees. subst (AgreesWith Describes next more) (sym (walk_then k so_far.made 1 w)) (changes (walk_of_steps k so_far.made w) (so_far.seen w agrees));
+          },
+          omega (arith, gave.one, left),
+        )
 
-  -- a marker that is neither idle nor past its turn begins its job anew
-  pub back_told : (next : OfPlan) → given_at w.office.exchange k ≡ given.Given → next ≡ record w.office { exchange = begun_anew w.office.plan k w.office.exchange }
-      → walk_of_steps k (frees_left next.exchange k) (record w { office = next }) ≡ walk_of_give_back k w
-  back_told next gives is =
-      ap (λ (o : OfPlan). walk_of_steps k (frees_left o.exchange k) (record w { office = o })) is
-      ∙ ap (λ (count : ℕ). walk_of_steps k count (to_begin_anew k w)) (anew w.office.plan w.office.exchange k gives).1
-      ∙ sym (given_tells given.Given gives)
+    pub all_up : withdraws_or_frees_at m.work ≡ false → (now ≡ record first { exchange = steps first.plan k (frees_left first.exchange k) first.exchange })
+        × ChangesAs Describes (walk_of_steps k (frees_left first.exchange k)) first observer now observed
+    all_up rests =
+        let none = none_left now.plan now.exchange k back (next_up ∙ rests) in
+        let all : so_far.made ≡ frees_left first.exchange k = omega (arith, so_far.less, none) in
+        (all_given first now now k m there so_far.office rests, subst (λ (n : ℕ). ChangesAs Describes (walk_of_steps k n) first observer now observed) all so_far.seen)
 
-pub begun_count : (plan : Tables) (k : ℕ) (e : Exchange) → length (begun_anew plan k e).markers ≡ length e.markers
-begun_count plan k e = begun_keeps plan (λ x. length x.markers ≡ length e.markers) k (λ x n a is at. length-set x.markers k _ ∙ is) e refl
+-- giving back, by what marker k answers
+pub given_walk : (k : ℕ) (w : Walk) (what : Given) → given_at w.office.exchange k ≡ what → walk_of_give_back k w ≡ walk_of_rollback what k w
+unfolding walk_of_give_back
+given_walk k w what is = ap (λ (what : Given). walk_of_rollback what k w) is
 
--- and then it is giving back
-pub anew_within : (o next : OfPlan) (k : ℕ) → k < length o.exchange.markers → next ≡ record o { exchange = begun_anew o.plan k o.exchange } → k < length next.exchange.markers
-anew_within o next k within is =
-    let same = ap (λ (x : OfPlan). length x.exchange.markers) is ∙ begun_count o.plan k o.exchange in
-    omega (arith, same)
+pub given_none : (k : ℕ) (w : Walk) → ¬ (given_at w.office.exchange k ≡ given.Given) → walk_of_give_back k w ≡ w
+given_none k w not = by (given_at w.office.exchange k) refl where
+  by : (what : Given) → given_at w.office.exchange k ≡ what → walk_of_give_back k w ≡ w
+  by given.Given is = absurd (not is)
+  by given.PastTurn is = given_walk k w given.PastTurn is
+  by given.Idle is = given_walk k w given.Idle is
 
-pub anew_backs : (o next : OfPlan) (k : ℕ) → given_at o.exchange k ≡ given.Given → next ≡ record o { exchange = begun_anew o.plan k o.exchange } → IsBackingAt (slice_get next.exchange.markers k)
-anew_backs o next k gives is = subst (λ (x : OfPlan). IsBackingAt (slice_get x.exchange.markers k)) (sym is) (anew o.plan o.exchange k gives).0
+-- a marker that gives back is to begin its job anew, and then gives up what it holds
+module _ (o begun : OfPlan) (k : ℕ) (gives : given_at o.exchange k ≡ given.Given) (is : begun ≡ record o { exchange = begun_anew o.plan k o.exchange }) where
+  pub anew_within : k < length o.exchange.markers → k < length begun.exchange.markers
+  anew_within within =
+      let kept = begun_keeps o.plan (λ (x : Exchange). length x.markers ≡ length o.exchange.markers) k (λ x n a same at. length-set x.markers k _ ∙ same) o.exchange refl in
+      let same = ap (λ (x : OfPlan). length x.exchange.markers) is in
+      omega (arith, kept, same, within)
 
--- the invariant of giving back
-pub record IsGoingBack (first now : Walk) (k : ℕ) : Type 0 where
-  pub size : length now.office.exchange.markers ≡ length first.office.exchange.markers
-  pub backs : IsBackingAt (slice_get now.office.exchange.markers k)
-  pub rest : walk_of_steps k (frees_left first.office.exchange k) first ≡ walk_of_steps k (frees_left now.office.exchange k) now
+  pub anew_backs : IsBackingAt (slice_get begun.exchange.markers k)
+  anew_backs = subst (λ (x : OfPlan). IsBackingAt (slice_get x.exchange.markers k)) (sym is) (anew o.plan o.exchange k gives).0
 
-pub none_back : (first : Walk) (k : ℕ) → IsBackingAt (slice_get first.office.exchange.markers k) → IsGoingBack first first k
-none_back first k backs = record { size = refl; backs = backs; rest = refl }
+  pub gave_back : (last : OfPlan) → last ≡ record begun { exchange = steps begun.plan k (frees_left begun.exchange k) begun.exchange } → last ≡ record o { exchange = given_back o.plan k o.exchange }
+  gave_back last up =
+      up ∙ ap (λ (x : OfPlan). record x { exchange = steps x.plan k (frees_left x.exchange k) x.exchange }) is
+      ∙ ap (λ (count : ℕ). record o { exchange = steps o.plan k count (begun_anew o.plan k o.exchange) }) (anew o.plan o.exchange k gives).1
+      ∙ ap (λ (x : Exchange). record o { exchange = x }) (sym (back_goes o.plan o.exchange k gives))
 
-module _ (first now : Walk) (k : ℕ) (so_far : IsGoingBack first now k) where
-  back : IsBacking now.office.exchange k
-  back = backing now.office.exchange k so_far.backs
-
-  next_up : (goes : Bool) → ((m : Marker) → slice_get now.office.exchange.markers k ≡ Some m → goes ≡ withdraws_or_frees_at m.work) → withdraws_or_frees (next_step back.attempt) ≡ goes
-  next_up goes observed = sym (observed back.at.marker back.at.there ∙ ap withdraws_or_frees_at back.at.work)
-
-  module _ (next : Walk) (goes : (m : Marker) → slice_get now.office.exchange.markers k ≡ Some m → true ≡ withdraws_or_frees_at m.work) (is : next ≡ walk_of_step k now) where
-    gave : GaveUp (after_step now.office.plan k now.office.exchange) k (frees_left now.office.exchange k)
-    gave = gave_up now.office.plan now.office.exchange k back (next_up true goes)
-
-    office : next.office ≡ record now.office { exchange = after_step now.office.plan k now.office.exchange }
-    office = ap (λ (w : Walk). w.office) is ∙ told_office k now
-
-    one_less : suc (frees_left next.office.exchange k) ≡ frees_left now.office.exchange k
-    one_less = ap (λ (o : OfPlan). suc (frees_left o.exchange k)) office ∙ gave.one
-
-    pub one_back : IsGoingBack first next k
-    unfolding walk_of_steps
-    one_back = record {
-      size = ap (λ (w : Walk). length w.office.exchange.markers) is ∙ told_count k now ∙ so_far.size;
-      backs = subst (λ (o : OfPlan). IsBackingAt (slice_get o.exchange.markers k)) (sym office) gave.backs;
-      rest = so_far.rest ∙ ap (λ (n : ℕ). walk_of_steps k n now) (sym one_less) ∙ ap (walk_of_steps k (frees_left next.office.exchange k)) (sym is);
-    }
-
-    pub less_back : frees_left next.office.exchange k < frees_left now.office.exchange k
-    less_back = let less = one_less in omega (arith, less)
-
-  pub all_back : ((m : Marker) → slice_get now.office.exchange.markers k ≡ Some m → false ≡ withdraws_or_frees_at m.work) → now ≡ walk_of_steps k (frees_left first.office.exchange k) first
-  unfolding walk_of_steps
-  all_back rests =
-      let none = none_left now.office.plan now.office.exchange k back (next_up false rests) in
-      sym (so_far.rest ∙ ap (λ (n : ℕ). walk_of_steps k n now) none)
-
--- offices that are one
-pub on_office : (o next : OfPlan) (k : ℕ) → o ≡ next → IsBackingAt (slice_get o.exchange.markers k) → IsBackingAt (slice_get next.exchange.markers k)
-on_office o next k is backs = subst (λ (x : OfPlan). IsBackingAt (slice_get x.exchange.markers k)) is backs
-
-pub ups_at : (goes : Bool) (o next : OfPlan) (k : ℕ) → o ≡ next → ((m : Marker) → slice_get next.exchange.markers k ≡ Some m → goes ≡ withdraws_or_frees_at m.work)
-    → (m : Marker) → slice_get o.exchange.markers k ≡ Some m → goes ≡ withdraws_or_frees_at m.work
-ups_at goes o next k is observed m there = observed m (ap (λ (x : OfPlan). slice_get x.exchange.markers k) (sym is) ∙ there)
-
--- the marker has one connector less to free
-pub less_left : (o next later : OfPlan) (s observed more : Story) (k : ℕ) → Reaches (λ first now. IsGoingBack first now k) o s next observed
-    → ((m : Marker) → slice_get next.exchange.markers k ≡ Some m → true ≡ withdraws_or_frees_at m.work) → ChangesAs (walk_of_step k) next observed later more → frees_left later.exchange k < frees_left next.exchange k
-less_left o next later s observed more k reached goes tells =
-    let at = reached (own_walk o s) (own_stands o s) in
-    let later_at = tells at.0 at.1 in
-    let less = less_back (own_walk o s) at.0 k at.2 (walk_of_step k at.0) (ups_at true at.0.office next k at.1.office_is goes) refl in
-    let before = ap (λ (x : OfPlan). frees_left x.exchange k) at.1.office_is in
-    let after = ap (λ (x : OfPlan). frees_left x.exchange k) later_at.office_is in
-    omega (arith, less, before, after)
-
--- and at last none
-pub back_ended : (o next : OfPlan) (s observed : Story) (k : ℕ) → Reaches (λ first now. IsGoingBack first now k) o s next observed
-    → ((m : Marker) → slice_get next.exchange.markers k ≡ Some m → false ≡ withdraws_or_frees_at m.work) → ChangesAs (walk_of_steps k (frees_left o.exchange k)) o s next observed
-back_ended o next s observed k reached rests w stands =
-    let at = reached w stands in
-    let all = all_back w at.0 k at.2 (ups_at false at.0.office next k at.1.office_is rests) in
-    subst (AgreesWith next observed) (all ∙ ap (λ (x : OfPlan). walk_of_steps k (frees_left x.exchange k) w) stands.office_is) at.1
-
--- the office after a change of marker k
-abbrev changed_by : (Tables → ℕ → Exchange → Exchange) → ℕ → OfPlan → OfPlan
-changed_by change k o = record o { exchange = change o.plan k o.exchange }
-
--- a part of a walk makes this change of an office
-abbrev pub Makes : (Tables → ℕ → Exchange → Exchange) → (ℕ → Walk → Walk) → Type 0
-Makes change part = (k : ℕ) (w : Walk) → (part k w).office ≡ changed_by change k w.office
-
-pub steps_make : (k count : ℕ) (w : Walk) → (walk_of_steps k count w).office ≡ record w.office { exchange = steps w.office.plan k count w.office.exchange }
-unfolding walk_of_steps steps
-steps_make k zero w = refl
-steps_make k (suc count) w =
-    steps_make k count (walk_of_step k w)
-    ∙ ap (λ (o : OfPlan). record o { exchange = steps o.plan k count o.exchange }) (told_office k w)
-
-pub end_makes : Makes ended walk_of_end
-end_makes k w = steps_make k most_steps_alone w
-
-abbrev if_past : OfPlan → ℕ → Work → Exchange
-if_past o k work = on_job o.exchange (λ n a. if is_some (turn_in a.phase) then ended o.plan k o.exchange else o.exchange) work
-
-past_alike : (k : ℕ) (w : Walk) (past : Bool) → (if past then walk_of_end k w else w).office ≡ record w.office { exchange = if past then ended w.office.plan k w.office.exchange else w.office.exchange }
-past_alike k w true = end_makes k w
-past_alike k w false = refl
-
-past_on : (k : ℕ) (w : Walk) (work : Work) → (if is_turned work then walk_of_end k w else w).office ≡ record w.office { exchange = if_past w.office k work }
-past_on k w Idle = refl
-past_on k w (Does n a) = past_alike k w (is_some (turn_in a.phase))
-
-past_found : (k : ℕ) (w : Walk) (found : Option Marker) → (if at_marker false (λ m. is_turned m.work) found then walk_of_end k w else w).office
-    ≡ record w.office { exchange = at_marker w.office.exchange (λ m. if_past w.office k m.work) found }
-past_found k w None = refl
-past_found k w (Some m) = past_on k w m.work
-
-pub past_makes : Makes ended_past_turn walk_of_end_past_turn
-past_makes k w = past_found k w (slice_get w.office.exchange.markers k)
-
-back_alike : (k : ℕ) (w : Walk) (what : Given) → (walk_of_rollback what k w).office
-    ≡ record w.office { exchange = backed_as what (steps w.office.plan k (frees_left w.office.exchange k) (begun_anew w.office.plan k w.office.exchange)) w.office.exchange }
-back_alike k w given.Given = steps_make k (frees_left w.office.exchange k) (to_begin_anew k w)
-back_alike k w given.PastTurn = refl
-back_alike k w given.Idle = refl
-
-pub back_makes : Makes given_back walk_of_give_back
-unfolding walk_of_give_back given_back
-back_makes k w = back_alike k w (given_at w.office.exchange k)
-
--- so for each of many markers
-pub each_makes : (change : Tables → ℕ → Exchange → Exchange) (part : ℕ → Walk → Walk) → Makes change part → (count : ℕ) (w : Walk)
-    → (walk_for_each part count w).office ≡ record w.office { exchange = for_each (change w.office.plan) count w.office.exchange }
-unfolding walk_for_each for_each
-each_makes change part makes zero w = refl
-each_makes change part makes (suc k) w = makes k (walk_for_each part k w) ∙ ap (changed_by change k) (each_makes change part makes k w)
+  pub sees_back : {O : Type 0} (Describes : O → Detail → ℕ → List Item → Type 0) (last : OfPlan) (observer observed : O)
+      → ChangesAs Describes (walk_of_steps k (frees_left begun.exchange k)) begun observer last observed → ChangesAs Describes (walk_of_give_back k) o observer last observed
+  sees_back Describes last observer observed changes w agrees =
+      let at = agrees.office_is in
+      let anew_is : begun ≡ (to_begin_anew k w).office = is ∙ ap (λ (x : OfPlan). record x { exchange = begun_anew x.plan k x.exchange }) (sym at) in
+      let here : given_at w.office.exchange k ≡ given.Given = ap (λ (x : OfPlan). given_at x.exchange k) at ∙ gives in
+      let count : frees_left begun.exchange k ≡ frees_left w.office.exchange k =
+      ap (λ (x : OfPlan). frees_left x.exchange k) anew_is ∙ (anew w.office.plan w.office.exchange k here).1 in
+      subst (AgreesWith Describes last observed) (ap (λ (n : ℕ). walk_of_steps k n (to_begin_anew k w)) count ∙ sym (given_walk k w given.Given here))
+      (changes (to_begin_anew k w) (record { office_is = sym anew_is; described = agrees.described }))
 
 -- as many markers stay
-abbrev pub KeepsSize : (ℕ → Walk → Walk) → Type 0
-KeepsSize part = (k : ℕ) (w : Walk) → length (part k w).office.exchange.markers ≡ length w.office.exchange.markers
+abbrev pub KeepsCount : (Tables → ℕ → Exchange → Exchange) → Type 0
+KeepsCount change = (plan : Tables) (k : ℕ) (e : Exchange) → length (change plan k e).markers ≡ length e.markers
 
-end_size : KeepsSize walk_of_end
-end_size k w = ap (λ (o : OfPlan). length o.exchange.markers) (end_makes k w) ∙ count_end w.office.plan k w.office.exchange
+part_counts : (part : Part) → KeepsCount (after_part part)
+part_counts EndPastTurn = λ plan k e. count_past plan k e
+part_counts GiveBack = λ plan k e. count_back plan k e
+part_counts End = λ plan k e. count_end plan k e
 
-past_size : KeepsSize walk_of_end_past_turn
-past_size k w = ap (λ (o : OfPlan). length o.exchange.markers) (past_makes k w) ∙ count_past w.office.plan k w.office.exchange
-
-back_size : KeepsSize walk_of_give_back
-back_size k w = ap (λ (o : OfPlan). length o.exchange.markers) (back_makes k w) ∙ count_back w.office.plan k w.office.exchange
-
-pub part_size : (part : Part) → KeepsSize (walk_of_part part)
-part_size EndPastTurn = past_size
-part_size GiveBack = back_size
-part_size End = end_size
-
-each_size : (part : ℕ → Walk → Walk) → KeepsSize part → (count : ℕ) (w : Walk) → length (walk_for_each part count w).office.exchange.markers ≡ length w.office.exchange.markers
-unfolding walk_for_each
-each_size part keeps zero w = refl
-each_size part keeps (suc k) w = keeps k (walk_for_each part k w) ∙ each_size part keeps k w
+each_counts : (part : Part) (plan : Tables) (count : ℕ) (e : Exchange) → length (for_each (after_part part plan) count e).markers ≡ length e.markers
+each_counts part plan count e = for_each_keeps (λ (x : Exchange). length x.markers ≡ length e.markers) (after_part part plan) (λ k x is. part_counts part plan k x ∙ is) count e refl
 
 -- the first `made` markers have done their part
-pub record AreDone (part : ℕ → Walk → Walk) (first now : Walk) (made : ℕ) : Type 0 where
-  pub size : length now.office.exchange.markers ≡ length first.office.exchange.markers
-  pub is : now ≡ walk_for_each part made first
+pub record HaveDone {O : Type 0} (Describes : O → Detail → ℕ → List Item → Type 0) (part : Part) (first : OfPlan) (observer : O) (now : OfPlan) (observed : O) (made : ℕ) : Type 0 where
+  pub office : now ≡ record first { exchange = for_each (after_part part first.plan) made first.exchange }
+  pub seen : ChangesAs Describes (walk_for_each (walk_of_part part) made) first observer now observed
 
-pub none_done : (part : ℕ → Walk → Walk) (first : Walk) → AreDone part first first 0
-unfolding walk_for_each
-none_done part first = record { size = refl; is = refl }
+module _ {O : Type 0} (Describes : O → Detail → ℕ → List Item → Type 0) (part : Part) (first : OfPlan) (observer : O) where
+  pub none_done : HaveDone Describes part first observer first observer 0
+  unfolding for_each walk_for_each
+  none_done = record { office = refl; seen = λ w agrees. agrees }
 
-pub one_done : (part : ℕ → Walk → Walk) → KeepsSize part → (first now next : Walk) (made : ℕ) → AreDone part first now made → next ≡ part made now → AreDone part first next (made + 1)
-unfolding walk_for_each
-one_done part keeps first now next made so_far is =
-    let more : suc made ≡ made + 1 = omega arith in
-    record {
-      size = ap (λ (w : Walk). length w.office.exchange.markers) is ∙ keeps made now ∙ so_far.size;
-      is = is ∙ ap (part made) so_far.is ∙ ap (λ (n : ℕ). walk_for_each part n first) more;
-    }
+  module _ (now : OfPlan) (observed : O) (made : ℕ) (so_far : HaveDone Describes part first observer now observed made) where
+    pub count_kept : length now.exchange.markers ≡ length first.exchange.markers
+    count_kept = ap (λ (o : OfPlan). length o.exchange.markers) so_far.office ∙ each_counts part first.plan made first.exchange
 
-pub all_done : (part : ℕ → Walk → Walk) (first now : Walk) (count made : ℕ) → made ≡ count → AreDone part first now made → now ≡ walk_for_each part count first
-all_done part first now count made all so_far = so_far.is ∙ ap (λ (n : ℕ). walk_for_each part n first) all
+    pub one_done : (next : OfPlan) (more : O) → next ≡ record now { exchange = after_part part now.plan made now.exchange } → ChangesAs Describes (walk_of_part part made) now observed next more
+        → HaveDone Describes part first observer next more (made + 1)
+    unfolding for_each walk_for_each
+    one_done next more is changes =
+        let one_more : suc made ≡ made + 1 = omega arith in
+        subst (HaveDone Describes part first observer next more) one_more (record {
+          office = is ∙ ap (λ (o : OfPlan). record o { exchange = after_part part o.plan made o.exchange }) so_far.office;
+          seen = λ w agrees. changes (walk_for_each (walk_of_part part) made w) (so_far.seen w agrees);
+        })
 
--- the three parts are a settling, and lead to the settled office
-abbrev each_of : (ℕ → Walk → Walk) → Walk → Walk
-each_of part w = walk_for_each part (length w.office.exchange.markers) w
+-- the three parts are a settling
+abbrev after_each : Part → OfPlan → OfPlan
+after_each part o = record o { exchange = for_each (after_part part o.plan) (length o.exchange.markers) o.exchange }
 
-module _ (w said past freed last : Walk) (begins : said ≡ record w { items = w.items ++ settling_item w.detail ∷ [] }) (one : past ≡ each_of walk_of_end_past_turn said) (two : freed ≡ each_of walk_of_give_back past) (three : last ≡ each_of walk_of_end freed) where
-  pub settling_is : last ≡ walk_of_settling w
-  settling_is =
-      let n : ℕ = length w.office.exchange.markers in
-      let first : Walk = record w { items = w.items ++ settling_item w.detail ∷ [] } in
-      let ends : past ≡ walk_for_each walk_of_end_past_turn n first = one ∙ ap (each_of walk_of_end_past_turn) begins in
-      let many = ap (λ (x : Walk). length x.office.exchange.markers) ends ∙ each_size walk_of_end_past_turn past_size n first in
-      let gives : freed ≡ walk_for_each walk_of_give_back n (walk_for_each walk_of_end_past_turn n first) =
-      two ∙ ap (λ (count : ℕ). walk_for_each walk_of_give_back count past) many ∙ ap (walk_for_each walk_of_give_back n) ends in
-      let same = ap (λ (x : Walk). length x.office.exchange.markers) gives ∙ each_size walk_of_give_back back_size n (walk_for_each walk_of_end_past_turn n first) ∙ each_size walk_of_end_past_turn past_size n first in
-      three ∙ ap (λ (count : ℕ). walk_for_each walk_of_end count freed) same ∙ ap (walk_for_each walk_of_end n) gives
+module _ (first past back last : OfPlan) (one : past ≡ after_each EndPastTurn first) (two : back ≡ after_each GiveBack past) (three : last ≡ after_each End back) where
+  past_counts : length past.exchange.markers ≡ length first.exchange.markers
+  past_counts = ap (λ (o : OfPlan). length o.exchange.markers) one ∙ each_counts EndPastTurn first.plan (length first.exchange.markers) first.exchange
 
-pub settling_settles : (w : Walk) → (walk_of_settling w).office ≡ record w.office { exchange = settled w.office.plan w.office.exchange }
-settling_settles w =
-    let n : ℕ = length w.office.exchange.markers in
-    let first : Walk = record w { items = w.items ++ settling_item w.detail ∷ [] } in
-    let past : Walk = walk_for_each walk_of_end_past_turn n first in
-    let back : Walk = walk_for_each walk_of_give_back n past in
-    each_makes ended walk_of_end end_makes n back
-    ∙ ap (λ (o : OfPlan). record o { exchange = for_each (ended o.plan) n o.exchange })
-    (each_makes given_back walk_of_give_back back_makes n past
-    ∙ ap (λ (o : OfPlan). record o { exchange = for_each (given_back o.plan) n o.exchange }) (each_makes ended_past_turn walk_of_end_past_turn past_makes n first))
+  back_counts : length back.exchange.markers ≡ length first.exchange.markers
+  back_counts = ap (λ (o : OfPlan). length o.exchange.markers) two ∙ each_counts GiveBack past.plan (length past.exchange.markers) past.exchange ∙ past_counts
 
--- so an office and a story settle
-pub settling_tells : (o past freed last : OfPlan) (s said observed more all : Story) → Adds settling_item s said
-    → ChangesAs (walk_for_each walk_of_end_past_turn (length o.exchange.markers)) o said past observed → ChangesAs (walk_for_each walk_of_give_back (length past.exchange.markers)) past observed freed more
-    → ChangesAs (walk_for_each walk_of_end (length freed.exchange.markers)) freed more last all → ChangesAs walk_of_settling o s last all
-settling_tells o past freed last s said observed more all adds one two three w stands =
-    let first : Walk = record w { items = w.items ++ settling_item w.detail ∷ [] } in
-    let begun : AgreesWith o said first = record { office_is = stands.office_is; story_is = adds w.detail w.number w.items stands.story_is } in
-    let ended : Walk = walk_for_each walk_of_end_past_turn (length o.exchange.markers) first in
-    let at_past = one first begun in
-    let given : Walk = walk_for_each walk_of_give_back (length past.exchange.markers) ended in
-    let at_freed = two ended at_past in
-    subst (AgreesWith last all)
-    (settling_is w first ended given (walk_for_each walk_of_end (length freed.exchange.markers) given) refl
-    (ap (λ (x : OfPlan). walk_for_each walk_of_end_past_turn (length x.exchange.markers) first) (sym begun.office_is))
-    (ap (λ (x : OfPlan). walk_for_each walk_of_give_back (length x.exchange.markers) ended) (sym at_past.office_is))
-    (ap (λ (x : OfPlan). walk_for_each walk_of_end (length x.exchange.markers) given) (sym at_freed.office_is)))
-    (three given at_freed)
+  abbrev of_count : Part → ℕ → OfPlan → OfPlan
+  of_count part count o = record o { exchange = for_each (after_part part o.plan) count o.exchange }
 
--- a marker that is to begin its job anew gives back all that it holds
-pub back_tells : (k : ℕ) (o begun last : OfPlan) (s all : Story) → given_at o.exchange k ≡ given.Given → begun ≡ record o { exchange = begun_anew o.plan k o.exchange }
-    → ChangesAs (walk_of_steps k (frees_left begun.exchange k)) begun s last all → ChangesAs (walk_of_give_back k) o s last all
-back_tells k o begun last s all gives is tells w stands =
-    subst (AgreesWith last all)
-    (back_told k w begun (ap (λ (x : OfPlan). given_at x.exchange k) stands.office_is ∙ gives) (is ∙ ap (λ (x : OfPlan). record x { exchange = begun_anew x.plan k x.exchange }) (sym stands.office_is)))
-    (tells (record w { office = begun }) (record { office_is = refl; story_is = stands.story_is }))
+  pub settled_is : last ≡ record first { exchange = settled first.plan first.exchange }
+  settled_is =
+      three ∙ ap (λ (n : ℕ). of_count End n back) back_counts
+      ∙ ap (of_count End (length first.exchange.markers)) (two ∙ ap (λ (n : ℕ). of_count GiveBack n past) past_counts ∙ ap (of_count GiveBack (length first.exchange.markers)) one)
+
+  pub settling_seen : {O : Type 0} (Describes : O → Detail → ℕ → List Item → Type 0) (observer said ended given all : O) → Adds Describes settling_item observer said
+      → ChangesAs Describes (walk_for_each (walk_of_part EndPastTurn) (length first.exchange.markers)) first said past ended
+      → ChangesAs Describes (walk_for_each (walk_of_part GiveBack) (length past.exchange.markers)) past ended back given
+      → ChangesAs Describes (walk_for_each (walk_of_part End) (length back.exchange.markers)) back given last all
+      → ChangesAs Describes walk_of_settling first observer last all
+  settling_seen Describes observer said ended given all adds ends gives finishes w agrees =
+      let begun : Walk = record w { items = w.items ++ settling_item w.detail ∷ [] } in
+      let n : ℕ = length first.exchange.markers in
+      let at_ended = ends begun (record { office_is = agrees.office_is; described = adds w.detail w.number w.items agrees.described }) in
+      let at_given = gives (walk_for_each (walk_of_part EndPastTurn) n begun) at_ended in
+      let at_all = finishes (walk_for_each (walk_of_part GiveBack) (length past.exchange.markers) (walk_for_each (walk_of_part EndPastTurn) n begun)) at_given in
+      let same : walk_for_each (walk_of_part End) (length back.exchange.markers) (walk_for_each (walk_of_part GiveBack) (length past.exchange.markers) (walk_for_each (walk_of_part EndPastTurn) n begun)) ≡ walk_of_settling w =
+      ap (λ (count : ℕ). walk_for_each (walk_of_part End) count (walk_for_each (walk_of_part GiveBack) (length past.exchange.markers) (walk_for_each (walk_of_part EndPastTurn) n begun))) back_counts
+      ∙ ap (λ (count : ℕ). walk_for_each (walk_of_part End) n (walk_for_each (walk_of_part GiveBack) count (walk_for_each (walk_of_part EndPastTurn) n begun))) past_counts
+      ∙ ap (λ (count : ℕ). walk_for_each (walk_of_part End) count (walk_for_each (walk_of_part GiveBack) count (walk_for_each (walk_of_part EndPastTurn) count begun))) (sym (ap (λ (o : OfPlan). length o.exchange.markers) agrees.office_is)) in
+      subst (AgreesWith Describes last all) same at_all

@@ -5,20 +5,22 @@ use Rattle.xbar_plan.specs.Tables.{Tables}
 use Rattle.xbar_office.specs.declared.reply.Record.{Record}
 use Rattle.xbar_jobs.specs.declared.step.Step.{Step}
 use Rattle.xbar_jobs.specs.declared.step.Step.TheVariants as step
-use Rattle.xbar_moves.specs.AtWork.{next_step_at}
+use Rattle.xbar_moves.specs.AtWork.{is_turned, next_step_at}
 use Rattle.xbar_moves.specs.Exchange.{Exchange, Marker, OfPlan, at_marker, is_idle}
-use Rattle.xbar_moves.specs.Moves.{after_step, event_at_step}
+use Rattle.xbar_moves.specs.Moves.{after_step, event_at_step, steps}
 use Rattle.xbar_moves.specs.Runs.{Steps}
 use Rattle.xbar_moves.specs.declared.event.Event.{Event}
 use Rattle.xbar_core.proofs.GrownRecords.{move_begins}
+use Rattle.xbar_core.proofs.Loops.{AreLeft, all_left, some_made}
 use Rattle.xbar_moves.proofs.Markers.{none_within}
 use Rattle.xbar_moves.proofs.StepCases.{step_count}
 use Rattle.xbar_moves.proofs.Stepping.{step_idle}
-use Rattle.xbar_walk.specs.Walks.{Walk, added_by, walk_of_step, is_idle_in, next_of, observation_of, walk_of_steps}
+use Rattle.xbar_walk.specs.Walks.{Walk, added_by, walk_of_step, is_idle_in, is_past_turn_in, next_of, observation_of, walk_of_steps}
 use Rattle.xbar_walk.specs.Items.{Item, step_item}
 use Rattle.xbar_step_text.specs.Lines.{one_more}
 use Rattle.xbar_step_text.specs.Observed.{found_by}
-use Rattle.xbar_walk.specs.Stories.{AddsStep, IsStory, AgreesWith, ChangesAs}
+use Rattle.xbar_walk.specs.Observers.{AgreesWith, ChangesAs}
+use Rattle.xbar_walk.specs.Stories.{AddsStep, IsStory}
 use Rattle.xbar_walk.specs.declared.story.Story.{Story}
 use Rattle.xbar_step_text.specs.declared.observation.Observation.{Observation}
 
@@ -66,54 +68,80 @@ module _ (k : ℕ) (w : Walk) where
     by true is = ap (λ (x : Walk). x.office) (idle_tells_none is) ∙ sym (idle_stays is)
     by false is = ap (λ (x : Walk). x.office) (made_is_told is)
 
-  pub told_count : length (walk_of_step k w).office.exchange.markers ≡ length w.office.exchange.markers
-  told_count = ap (λ (o : OfPlan). length o.exchange.markers) told_office ∙ step_count w.office.plan w.office.exchange k
+-- so too after many steps
+pub steps_office : (k count : ℕ) (w : Walk) → (walk_of_steps k count w).office ≡ record w.office { exchange = steps w.office.plan k count w.office.exchange }
+unfolding walk_of_steps steps
+steps_office k zero w = refl
+steps_office k (suc count) w =
+    steps_office k count (walk_of_step k w)
+    ∙ ap (λ (o : OfPlan). record o { exchange = steps o.plan k count o.exchange }) (told_office k w)
 
--- so too if it is to make many steps
-pub idle_tells_nothing : (k count : ℕ) (w : Walk) → is_idle_in w.office.exchange k ≡ true → walk_of_steps k count w ≡ w
+-- many steps of an idle marker change nothing
+idle_tells_nothing : (k count : ℕ) (w : Walk) → is_idle_in w.office.exchange k ≡ true → walk_of_steps k count w ≡ w
 unfolding walk_of_steps
 idle_tells_nothing k zero w idle = refl
 idle_tells_nothing k (suc count) w idle = ap (walk_of_steps k count) (idle_tells_none k w idle) ∙ idle_tells_nothing k count w idle
 
--- some of a marker's steps were made, and the remaining ones give the walk that all of them give
-pub record AreTold (first now : Walk) (k count made : ℕ) : Type 0 where
-  pub size : length now.office.exchange.markers ≡ length first.office.exchange.markers
-  pub rest : walk_of_steps k count first ≡ walk_of_steps k (count - made) now
-
-pub none_told : (first : Walk) (k count : ℕ) → AreTold first first k count 0
-none_told first k count = record { size = refl; rest = ap (λ (n : ℕ). walk_of_steps k n first) (omega arith) }
-
-pub one_told : (first now next : Walk) (k count made : ℕ) → made < count → AreTold first now k count made → next ≡ walk_of_step k now → AreTold first next k count (made + 1)
+-- some steps and then more
+pub walk_then : (k count more : ℕ) (w : Walk) → walk_of_steps k (count + more) w ≡ walk_of_steps k more (walk_of_steps k count w)
 unfolding walk_of_steps
-one_told first now next k count made below so_far is =
-    let rest : count - made ≡ suc (count - (made + 1)) = omega arith in
-    record {
-      size = ap (λ (x : Walk). length x.office.exchange.markers) is ∙ told_count k now ∙ so_far.size;
-      rest = so_far.rest ∙ ap (λ (n : ℕ). walk_of_steps k n now) rest ∙ ap (walk_of_steps k (count - (made + 1))) (sym is);
-    }
+walk_then k zero more w = let none : 0 + more ≡ more = omega arith in ap (λ (n : ℕ). walk_of_steps k n w) none
+walk_then k (suc count) more w = let one : suc count + more ≡ suc (count + more) = omega arith in ap (λ (n : ℕ). walk_of_steps k n w) one ∙ walk_then k count more (walk_of_step k w)
 
-pub all_told : (first now : Walk) (k count made : ℕ) → made ≡ count → AreTold first now k count made → now ≡ walk_of_steps k count first
+-- some of a marker's steps were made
+pub record AreTold (first : OfPlan) (story : Story) (now : OfPlan) (told : Story) (k count made : ℕ) : Type 0 where
+  pub office : AreLeft first now k count (count - made)
+  pub seen : ChangesAs IsStory (walk_of_steps k made) first story now told
+
+pub none_told : (first : OfPlan) (story : Story) (k count : ℕ) → AreTold first story first story k count 0
 unfolding walk_of_steps
-all_told first now k count made all so_far =
-    let none : count - made ≡ 0 = omega arith in
-    sym (so_far.rest ∙ ap (λ (n : ℕ). walk_of_steps k n now) none)
+none_told first story k count =
+    let all : count ≡ count - 0 = omega arith in
+    record { office = subst (AreLeft first first k count) all (all_left first k count); seen = λ w agrees. agrees }
 
-pub rest_told : (first now : Walk) (k count made : ℕ) → AreTold first now k count made → is_idle_in now.office.exchange k ≡ true → now ≡ walk_of_steps k count first
-rest_told first now k count made so_far idle = sym (so_far.rest ∙ idle_tells_nothing k (count - made) now idle)
+module _ (first now : OfPlan) (story told : Story) (k count made : ℕ) (so_far : AreTold first story now told k count made) where
+  pub one_told : (next : OfPlan) (more : Story) → made < count → next ≡ stepped k now → ChangesAs IsStory (walk_of_step k) now told next more → AreTold first story next more k count (made + 1)
+  unfolding steps walk_of_steps
+  one_told next more below is changes =
+      let less : count - made - 1 ≡ count - (made + 1) = omega arith in
+      record {
+        office = subst (AreLeft first next k count) less (some_made first now next k count (count - made) 1 (omega (arith, below)) so_far.office is);
+        seen = λ w agrees. subst (AgreesWith IsStory next more) (sym (walk_then k made 1 w)) (changes (walk_of_steps k made w) (so_far.seen w agrees));
+      }
 
--- whether a marker is idle, by what an exchange answers of the marker that is there
-pub idle_is : (e : Exchange) (k : ℕ) (idle : Bool) → k < length e.markers → ((m : Marker) → slice_get e.markers k ≡ Some m → idle ≡ is_idle m.work) → is_idle_in e k ≡ idle
-idle_is e k idle within is = by (slice_get e.markers k) refl where
-  by : (found : Option Marker) → slice_get e.markers k ≡ found → is_idle_in e k ≡ idle
+  -- and those that are left change nothing
+  pub all_seen : made ≤ count → ((w : Walk) → AgreesWith IsStory now told w → walk_of_steps k (count - made) w ≡ w) → ChangesAs IsStory (walk_of_steps k count) first story now told
+  all_seen within rests w agrees =
+      let at = so_far.seen w agrees in
+      let parts : made + (count - made) ≡ count = omega (arith, within) in
+      subst (AgreesWith IsStory now told) (sym (rests (walk_of_steps k made w) at) ∙ sym (walk_then k made (count - made) w) ∙ ap (λ (n : ℕ). walk_of_steps k n w) parts) at
+
+  pub none_seen : count ≤ made → made ≤ count → ChangesAs IsStory (walk_of_steps k count) first story now told
+  unfolding walk_of_steps
+  none_seen past within = let none : count - made ≡ 0 = omega (arith, past) in all_seen within (λ w agrees. ap (λ (n : ℕ). walk_of_steps k n w) none)
+
+  pub idle_seen : made ≤ count → is_idle_in now.exchange k ≡ true → ChangesAs IsStory (walk_of_steps k count) first story now told
+  idle_seen within idle = all_seen within (λ w agrees. idle_tells_nothing k (count - made) w (ap (λ (o : OfPlan). is_idle_in o.exchange k) agrees.office_is ∙ idle))
+
+-- the marker of a number that there is
+pub marker_at : (e : Exchange) (k : ℕ) → k < length e.markers → (m : Marker) × (slice_get e.markers k ≡ Some m)
+marker_at e k within = by (slice_get e.markers k) refl where
+  by : (found : Option Marker) → slice_get e.markers k ≡ found → (m : Marker) × (slice_get e.markers k ≡ Some m)
   by None none = absurd (none_within e.markers k within none)
-  by (Some m) there = ap (at_marker true (λ o. is_idle o.work)) there ∙ sym (is m there)
+  by (Some m) there = (m, there)
 
--- which step it makes next
-pub next_is : (e : Exchange) (k : ℕ) (next : Step) → k < length e.markers → ((m : Marker) → slice_get e.markers k ≡ Some m → next ≡ next_step_at m.work) → next_of e k ≡ next
-next_is e k next within is = by (slice_get e.markers k) refl where
-  by : (found : Option Marker) → slice_get e.markers k ≡ found → next_of e k ≡ next
-  by None none = absurd (none_within e.markers k within none)
-  by (Some m) there = ap (at_marker step.Finished (λ o. next_step_at o.work)) there ∙ sym (is m there)
+module _ (e : Exchange) (k : ℕ) (within : k < length e.markers) where
+  -- whether a marker is idle, by what an exchange answers of the marker that is there
+  pub idle_is : (idle : Bool) → ((m : Marker) → slice_get e.markers k ≡ Some m → idle ≡ is_idle m.work) → is_idle_in e k ≡ idle
+  idle_is idle is = let at = marker_at e k within in ap (at_marker true (λ o. is_idle o.work)) at.1 ∙ sym (is at.0 at.1)
+
+  -- whether it is past its turn
+  pub past_is : (past : Bool) → ((m : Marker) → slice_get e.markers k ≡ Some m → past ≡ is_turned m.work) → is_past_turn_in e k ≡ past
+  past_is past is = let at = marker_at e k within in ap (at_marker false (λ o. is_turned o.work)) at.1 ∙ sym (is at.0 at.1)
+
+  -- which step it makes next
+  pub next_is : (next : Step) → ((m : Marker) → slice_get e.markers k ≡ Some m → next ≡ next_step_at m.work) → next_of e k ≡ next
+  next_is next is = let at = marker_at e k within in ap (at_marker step.Finished (λ o. next_step_at o.work)) at.1 ∙ sym (is at.0 at.1)
 
 -- a step leaves as many markers, and all records that there were
 pub step_within : (o next : OfPlan) (k : ℕ) → k < length o.exchange.markers → next ≡ stepped k o → k < length next.exchange.markers
@@ -137,17 +165,17 @@ told_is o next k found made after came step_is found_is came_is is after_is =
 
 -- an office and a story after a step that was made and added agree with the walk after it
 pub made_tells : (k : ℕ) (office next : OfPlan) (story later : Story) (before : ℕ) (observed : Observation) → is_idle_in office.exchange k ≡ false → next ≡ stepped k office → observed ≡ observation_of office.plan k office.exchange
-    → before ≡ length office.exchange.records → AddsStep (λ detail number. step_item detail number k observed (drop before next.exchange.records)) story later → ChangesAs (walk_of_step k) office story next later
-made_tells k office next story later before observed goes next_is told_is before_is adds w stands =
+    → before ≡ length office.exchange.records → AddsStep (λ detail number. step_item detail number k observed (drop before next.exchange.records)) story later → ChangesAs IsStory (walk_of_step k) office story next later
+made_tells k office next story later before observed goes next_is told_is before_is adds w agrees =
     let d = w.detail in
     let n = one_more w.number in
     let same =
     ap (λ (t : Observation). step_item d n k t (drop before next.exchange.records)) told_is
     ∙ ap (λ (b : ℕ). step_item d n k (observation_of office.plan k office.exchange) (drop b next.exchange.records)) before_is
     ∙ ap (λ (o : OfPlan). step_item d n k (observation_of office.plan k office.exchange) (drop (length office.exchange.records) o.exchange.records)) next_is
-    ∙ ap (λ (o : OfPlan). step_item d n k (observation_of o.plan k o.exchange) (added_by o.plan k o.exchange)) (sym stands.office_is) in
-    let made : AgreesWith next later (after_made k w) = record {
-      office_is = ap (stepped k) stands.office_is ∙ sym next_is;
-      story_is = subst (λ (item : Item). IsStory d later n (w.items ++ item ∷ [])) same (adds d w.number w.items stands.story_is);
+    ∙ ap (λ (o : OfPlan). step_item d n k (observation_of o.plan k o.exchange) (added_by o.plan k o.exchange)) (sym agrees.office_is) in
+    let made : AgreesWith IsStory next later (after_made k w) = record {
+      office_is = ap (stepped k) agrees.office_is ∙ sym next_is;
+      described = subst (λ (item : Item). IsStory later d n (w.items ++ item ∷ [])) same (adds d w.number w.items agrees.described);
     } in
-    subst (AgreesWith next later) (sym (made_is_told k w (ap (λ (o : OfPlan). is_idle_in o.exchange k) stands.office_is ∙ goes))) made
+    subst (AgreesWith IsStory next later) (sym (made_is_told k w (ap (λ (o : OfPlan). is_idle_in o.exchange k) agrees.office_is ∙ goes))) made

@@ -3,4 +3,5 @@ pub mod Items
 pub mod Walks
 pub mod Parts
 pub mod Runs
+pub mod Observers
 pub mod Stories

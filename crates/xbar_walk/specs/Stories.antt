@@ -1,16 +1,14 @@
 -- What a story describes.
 use Rattle.std.specs.Prelude.{◌≡◌, ℕ, List, [], ◌∷◌, ◌++◌, map, string_bytes}
-use Rattle.xbar_moves.specs.Exchange.{OfPlan}
 use Rattle.xbar_walk.specs.Items.{Item, Tests, walk_text_of}
 use Rattle.xbar_step_text.specs.Lines.{one_more}
-use Rattle.xbar_walk.specs.Walks.{Walk}
 use Rattle.xbar_walk.specs.declared.story.Story.{Story}
 use Rattle.xbar_walk.specs.declared.detail.Detail.{Detail}
 
 -- a story describes these items, and its last step has this number: whatever items come later, the
 -- whole text is what the story has written, then the text of its pending tests and of the later
 -- items
-pub record IsStory (detail : Detail) (story : Story) (number : ℕ) (items : List Item)
+pub record IsStory (story : Story) (detail : Detail) (number : ℕ) (items : List Item)
     : Type 0 where
   pub telling_is : story.detail ≡ detail
   pub number_is : story.number ≡ number
@@ -18,25 +16,8 @@ pub record IsStory (detail : Detail) (story : Story) (number : ℕ) (items : Lis
       → walk_text_of detail (items ++ later)
       ≡ string_bytes story.text ++ walk_text_of detail (map Tests story.tests.items ++ later)
 
--- an office and a story agree with a walk
-pub record AgreesWith (office : OfPlan) (story : Story) (w : Walk) : Type 0 where
-  pub office_is : w.office ≡ office
-  pub story_is : IsStory w.detail story w.number w.items
-
--- an office and a story change as this part of a walk does: if they agreed with a walk before, the
--- next ones agree with the walk after this part
-abbrev pub ChangesAs : (Walk → Walk) → OfPlan → Story → OfPlan → Story → Type 0
-ChangesAs part office story next observed =
-    (w : Walk) → AgreesWith office story w → AgreesWith next observed (part w)
-
--- one more item is added to a story, in its detail
-abbrev pub Adds : (Detail → Item) → Story → Story → Type 0
-Adds item story next =
-    (detail : Detail) (number : ℕ) (items : List Item) → IsStory detail story number items
-    → IsStory detail next number (items ++ item detail ∷ [])
-
 -- one more item is added to a story: a step, with the next number
 abbrev pub AddsStep : (Detail → ℕ → Item) → Story → Story → Type 0
 AddsStep item story next =
-    (detail : Detail) (number : ℕ) (items : List Item) → IsStory detail story number items
-    → IsStory detail next (one_more number) (items ++ item detail (one_more number) ∷ [])
+    (detail : Detail) (number : ℕ) (items : List Item) → IsStory story detail number items
+    → IsStory next detail (one_more number) (items ++ item detail (one_more number) ∷ [])

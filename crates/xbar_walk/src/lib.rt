@@ -1,13 +1,15 @@
-//! Describes what the markers of an office do, step by step: in words, or as JSON objects.
+//! Has the markers of an office make steps, and describes what they do, step by step: in words, or
+//! as JSON objects.
 #![tactic(auto)]
 
 pub use detail::Detail;
-pub use settling::walk_settling;
+pub use observer::{Observer, Unobserved};
+pub use settling::settle;
 pub use story::Story;
-pub use walk::{walk_step, walk_steps};
 
 mod detail;
 pub mod laws;
+mod observer;
 mod rows;
 mod settling;
 mod story;

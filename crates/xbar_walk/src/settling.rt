@@ -1,17 +1,18 @@
-//! Settles an office and describes each step.
+//! Settles an office.
 
-ghost use Rattle.std.specs.Prelude.{◌≡◌, ◌<◌, OnOk, length, slice_get};
+ghost use Rattle.std.specs.Prelude.{◌≡◌, ◌<◌, ℕ, OnErr, OnOk, Some, length, slice_get, true};
+ghost use Rattle.xbar_core.specs.Ends.{Settles};
 ghost use Rattle.xbar_moves.specs.AtWork.{IsBackingAt};
-ghost use Rattle.xbar_moves.specs.Moves.{frees_left};
-ghost use Rattle.xbar_moves.specs.Settling.{settled};
-ghost use Rattle.xbar_walk.specs.Parts.{walk_of_part};
-ghost use Rattle.xbar_walk.specs.Stories.{ChangesAs};
-ghost use Rattle.xbar_walk.specs.Walks.{walk_of_end, walk_of_end_past_turn, walk_for_each, walk_of_give_back, walk_of_settling, walk_of_steps};
+ghost use Rattle.xbar_moves.specs.Exchange.{Marker, is_idle};
+ghost use Rattle.xbar_moves.specs.Moves.{frees_left, given_back, steps};
+ghost use Rattle.xbar_moves.specs.Settling.{ended_past_turn, for_each, settled};
+ghost use Rattle.xbar_walk.specs.Observers.{ChangesAs};
+ghost use Rattle.xbar_walk.specs.Parts.{after_part, walk_of_part};
+ghost use Rattle.xbar_walk.specs.Walks.{walk_for_each, walk_of_end_past_turn, walk_of_give_back, walk_of_settling, walk_of_steps};
 
-use crate::story::Story;
-use crate::walk::{walk_step, walk_steps};
+use crate::observer::Observer;
 use std::alloc::AllocError;
-use xbar_core::Exchange;
+use xbar_core::{Exchange, Given};
 
 /// A part of settling, which one marker after another does.
 #[derive(Clone, Copy)]
@@ -24,109 +25,140 @@ enum Part {
     End,
 }
 
-/// The most steps that a marker needs to finish its job while no other marker is in its way.
+/// The most steps to the end of its job of a marker with no other in its way: two to withdraw and
+/// to try again, 18 frees, and the 114 of the job anew.
 const MOST_STEPS_ALONE: u32 = 134;
 
-/// Makes enough steps for the marker to finish its job if no other marker is in its way.
-fn walk_end(exchange: &mut Exchange<'_>, marker: u32, story: &mut Story) -> Result<(), AllocError>
-    requires { marker < length exchange.old.exchange.markers }
-    ensures { OnOk result
-        (ChangesAs (walk_of_end marker) exchange.old story.old exchange.new story.new) }
-{
-    walk_steps(exchange, marker, MOST_STEPS_ALONE, story)
-}
-
-fn walk_end_past_turn(
-    exchange: &mut Exchange<'_>,
+fn end_past_turn<O: Observer>(
+    office: &mut Exchange<'_>,
     marker: u32,
-    story: &mut Story,
+    observer: &mut O,
 ) -> Result<(), AllocError>
-    requires { marker < length exchange.old.exchange.markers }
-    ensures { OnOk result
-        (ChangesAs (walk_of_end_past_turn marker) exchange.old story.old exchange.new story.new) }
+    requires { marker < length office.old.exchange.markers }
+    ensures office { OnOk result (office.new ≡ record office.old {
+      exchange = ended_past_turn office.old.plan marker office.old.exchange;
+    }) }
+    ensures observed { OnOk result (ChangesAs O.Describes (walk_of_end_past_turn marker)
+        office.old observer.old office.new observer.new) }
+    ensures fails { OnErr result O.MayFail }
 {
-    if exchange.is_past_turn(marker) {
-        walk_end(exchange, marker, story)?;
+    if office.is_past_turn(marker) {
+        observer.steps(office, marker, MOST_STEPS_ALONE)?;
         return Ok(());
     }
     Ok(())
 }
 
-/// Has a marker that is to begin its job anew withdraw its request and free all that it holds.
-fn walk_back(exchange: &mut Exchange<'_>, marker: u32, story: &mut Story) -> Result<(), AllocError>
-    requires within { marker < length exchange.old.exchange.markers }
-    requires backs { IsBackingAt (slice_get exchange.old.exchange.markers marker) }
-    ensures { OnOk result
-        (ChangesAs (walk_of_steps marker (frees_left exchange.old.exchange marker))
-        exchange.old story.old exchange.new story.new) }
+/// Has a marker that was restarted withdraw its request, and free all that it holds.
+fn give_up<O: Observer>(
+    office: &mut Exchange<'_>,
+    marker: u32,
+    observer: &mut O,
+) -> Result<(), AllocError>
+    requires within { marker < length office.old.exchange.markers }
+    requires backs { IsBackingAt (slice_get office.old.exchange.markers marker) }
+    ensures office { OnOk result (office.new ≡ record office.old {
+      exchange =
+          steps office.old.plan marker (frees_left office.old.exchange marker)
+          office.old.exchange;
+    }) }
+    ensures observed { OnOk result (ChangesAs O.Describes
+        (walk_of_steps marker (frees_left office.old.exchange marker))
+        office.old observer.old office.new observer.new) }
+    ensures fails { OnErr result O.MayFail }
 {
-    while exchange.withdraws_or_frees(marker) {
-        walk_step(exchange, marker, story)?;
+    while office.withdraws_or_frees(marker) {
+        observer.steps(office, marker, 1)?;
     }
     Ok(())
 }
 
 /// Has the marker give back all that it holds, unless it is idle or past its turn.
-fn walk_give_back(
-    exchange: &mut Exchange<'_>,
+fn give_back<O: Observer>(
+    office: &mut Exchange<'_>,
     marker: u32,
-    story: &mut Story,
+    observer: &mut O,
 ) -> Result<(), AllocError>
-    requires { marker < length exchange.old.exchange.markers }
-    ensures { OnOk result
-        (ChangesAs (walk_of_give_back marker) exchange.old story.old exchange.new story.new) }
+    requires { marker < length office.old.exchange.markers }
+    ensures office { OnOk result (office.new ≡ record office.old {
+      exchange = given_back office.old.plan marker office.old.exchange;
+    }) }
+    ensures observed { OnOk result (ChangesAs O.Describes (walk_of_give_back marker)
+        office.old observer.old office.new observer.new) }
+    ensures fails { OnErr result O.MayFail }
 {
-    if exchange.is_idle(marker) {
+    let Given::Given = office.given(marker) else {
         return Ok(());
-    }
-    if exchange.is_past_turn(marker) {
-        return Ok(());
-    }
-    exchange.restart(marker);
-    walk_back(exchange, marker, story)?;
+    };
+    office.restart(marker);
+    give_up(office, marker, observer)?;
     Ok(())
 }
 
-fn walk_part(
-    exchange: &mut Exchange<'_>,
+fn do_part<O: Observer>(
+    office: &mut Exchange<'_>,
     part: Part,
     marker: u32,
-    story: &mut Story,
+    observer: &mut O,
 ) -> Result<(), AllocError>
-    requires { marker < length exchange.old.exchange.markers }
-    ensures { OnOk result
-        (ChangesAs (walk_of_part part marker) exchange.old story.old exchange.new story.new) }
+    requires { marker < length office.old.exchange.markers }
+    ensures office { OnOk result (office.new ≡ record office.old {
+      exchange = after_part part office.old.plan marker office.old.exchange;
+    }) }
+    ensures observed { OnOk result (ChangesAs O.Describes (walk_of_part part marker)
+        office.old observer.old office.new observer.new) }
+    ensures fails { OnErr result O.MayFail }
 {
     match part {
-        Part::EndPastTurn => walk_end_past_turn(exchange, marker, story),
-        Part::GiveBack => walk_give_back(exchange, marker, story),
-        Part::End => walk_end(exchange, marker, story),
+        Part::EndPastTurn => end_past_turn(office, marker, observer),
+        Part::GiveBack => give_back(office, marker, observer),
+        Part::End => observer.steps(office, marker, MOST_STEPS_ALONE),
     }
 }
 
 /// Has every marker do this part, in the order of their numbers.
-fn walk_each(exchange: &mut Exchange<'_>, part: Part, story: &mut Story) -> Result<(), AllocError>
-    ensures { OnOk result (ChangesAs
-        (walk_for_each (walk_of_part part) (length exchange.old.exchange.markers))
-        exchange.old story.old exchange.new story.new) }
+fn each<O: Observer>(
+    office: &mut Exchange<'_>,
+    part: Part,
+    observer: &mut O,
+) -> Result<(), AllocError>
+    ensures office { OnOk result (office.new ≡ record office.old {
+      exchange =
+          for_each (after_part part office.old.plan) (length office.old.exchange.markers)
+          office.old.exchange;
+    }) }
+    ensures observed { OnOk result (ChangesAs O.Describes
+        (walk_for_each (walk_of_part part) (length office.old.exchange.markers))
+        office.old observer.old office.new observer.new) }
+    ensures fails { OnErr result O.MayFail }
 {
-    for marker in 0..exchange.marker_count() {
-        walk_part(exchange, part, marker, story)?;
+    for marker in 0..office.marker_count() {
+        do_part(office, part, marker, observer)?;
     }
     Ok(())
 }
 
-/// Finishes every job, as `Exchange::settle` does. A line says that the rows are done, and each
-/// step is described as by `walk_step`. If memory runs out, the office may have settled in part.
-pub fn walk_settling(exchange: &mut Exchange<'_>, story: &mut Story) -> Result<(), AllocError>
-    ensures settled { OnOk result (exchange.new
-        ≡ record exchange.old { exchange = settled exchange.old.plan exchange.old.exchange }) }
-    ensures observed { OnOk result
-        (ChangesAs walk_of_settling exchange.old story.old exchange.new story.new) }
+/// Brings every job to its end, in the order of the markers' numbers: first the markers past their
+/// turn end their jobs, then all others give back, and then each of them does its job alone. If the
+/// observer fails, the office may have settled in part.
+pub fn settle<O: Observer>(office: &mut Exchange<'_>, observer: &mut O) -> Result<(), AllocError>
+    ensures settled { OnOk result (office.new
+        ≡ record office.old { exchange = settled office.old.plan office.old.exchange }) }
+    ensures settles { OnOk result
+        (Settles office.old.plan office.old.exchange office.new.exchange) }
+    ensures idle { OnOk result ((k : ℕ) (m : Marker)
+        → slice_get office.new.exchange.markers k ≡ Some m → is_idle m.work ≡ true) }
+    ensures observed { OnOk result (ChangesAs O.Describes walk_of_settling
+        office.old observer.old office.new observer.new) }
+    ensures fails { OnErr result O.MayFail }
 {
-    story.add_settling()?;
-    walk_each(exchange, Part::EndPastTurn, story)?;
-    walk_each(exchange, Part::GiveBack, story)?;
-    walk_each(exchange, Part::End, story)?;
+    // Called only for their contracts.
+    xbar_plan::laws::every_plan_is_lawful(office.plan());
+    office.words();
+    xbar_core::laws::settling_ends_all_jobs();
+    observer.settles()?;
+    each(office, Part::EndPastTurn, observer)?;
+    each(office, Part::GiveBack, observer)?;
+    each(office, Part::End, observer)?;
     Ok(())
 }

@@ -27,12 +27,13 @@ pub struct Story {
 impl Story {
     ghost use Rattle.std.specs.Prelude.{ℕ, List};
     ghost use Rattle.xbar_walk.specs.Items.{Item, Tests, assignment_item, is_json, settling_item, step_item, walk_text_of};
-    ghost use Rattle.xbar_walk.specs.Stories.{Adds, AddsStep, IsStory};
+    ghost use Rattle.xbar_walk.specs.Observers.{Adds};
+    ghost use Rattle.xbar_walk.specs.Stories.{AddsStep, IsStory};
     ghost use Rattle.xbar_walk.specs.declared.detail.Detail.{Detail as TheTelling};
 
     /// An empty story, to be written in this detail.
     pub fn new(alloc: Global, detail: Detail) -> Self
-        ensures { IsStory detail result 0 [] }
+        ensures { IsStory result detail 0 [] }
     {
         Story {
             detail,
@@ -67,7 +68,7 @@ impl Story {
 
     /// Adds a test to the pending ones, or begins new ones if it doesn't share their line.
     fn add_test(&mut self, tested: Tested) -> Result<(), AllocError>
-        ensures { OnOk result (Adds (λ detail. Tests tested) self.old self.new) }
+        ensures { OnOk result (Adds IsStory (λ detail. Tests tested) self.old self.new) }
     {
         if self.shares_pending_line(&tested) {
             self.tests.push(tested)?;
@@ -80,8 +81,13 @@ impl Story {
 
     /// Adds that a marker is assigned a job. If memory runs out, a part of the text may have been
     /// added; so too in the methods below.
-    pub fn add_assignment(&mut self, marker: u32, job_no: u32, job: &Job) -> Result<(), AllocError>
-        ensures { OnOk result (Adds (λ detail. assignment_item detail marker job_no job.now)
+    pub(crate) fn add_assignment(
+        &mut self,
+        marker: u32,
+        job_no: u32,
+        job: &Job,
+    ) -> Result<(), AllocError>
+        ensures { OnOk result (Adds IsStory (λ detail. assignment_item detail marker job_no job.now)
             self.old self.new) }
     {
         let detail = self.detail;
@@ -106,8 +112,8 @@ impl Story {
     }
 
     /// Adds that no row is left and the office settles.
-    pub fn add_settling(&mut self) -> Result<(), AllocError>
-        ensures { OnOk result (Adds settling_item self.old self.new) }
+    pub(crate) fn add_settling(&mut self) -> Result<(), AllocError>
+        ensures { OnOk result (Adds IsStory settling_item self.old self.new) }
     {
         let detail = self.detail;
         self.end_tests()?;
@@ -131,7 +137,7 @@ impl Story {
     ) -> Result<(), AllocError>
         requires { is_json self.old.detail ≡ true }
         ensures { OnOk result
-            (Adds (λ detail. step_item detail number marker observed.now records.now)
+            (Adds IsStory (λ detail. step_item detail number marker observed.now records.now)
             self.old self.new) }
     {
         let detail = self.detail;
@@ -151,7 +157,7 @@ impl Story {
         records: &[Record],
     ) -> Result<(), AllocError>
         ensures { OnOk result
-            (Adds (λ detail. step_item detail number marker observed.now records.now)
+            (Adds IsStory (λ detail. step_item detail number marker observed.now records.now)
             self.old self.new) }
     {
         if self.detail.is_json() {
@@ -194,7 +200,7 @@ impl Story {
     /// Returns the whole text.
     pub fn finish(mut self) -> Result<String, AllocError>
         ensures { IfOk result (λ text. (detail : TheTelling) (number : ℕ) (items : List Item)
-            → IsStory detail self number items → string_bytes text ≡ walk_text_of detail items) }
+            → IsStory self detail number items → string_bytes text ≡ walk_text_of detail items) }
     {
         self.end_tests()?;
         Ok(self.text)

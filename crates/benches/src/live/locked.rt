@@ -9,7 +9,7 @@ use std::sync::atomic::{AtomicU64, Ordering};
 use std::sync::{Mutex, Wait};
 use std::thread::Threads;
 use std::{io, thread};
-use xbar_core::{Event, Exchange, Kind};
+use xbar_core::{Event, Exchange, Kind, Kinds};
 use xbar_markers::Call;
 use xbar_office::Job;
 use xbar_plan::Plan;
@@ -89,7 +89,10 @@ pub fn work<R: Threads + Wait + Sync>(
     requires { count ≤ 4 }
 {
     let kinds = [Kind::Combined; 8];
-    let Ok(office) = Exchange::open(alloc, plan, &kinds[..count + count]) else {
+    let Some(kinds) = Kinds::new(&kinds[..count + count]) else {
+        return Ok(0);
+    };
+    let Ok(office) = Exchange::open(alloc, plan, &kinds) else {
         return Ok(0);
     };
     let lineup = Lineup {

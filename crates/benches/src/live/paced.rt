@@ -11,7 +11,7 @@ use std::rt::Clock;
 use std::sync::Wait;
 use std::thread::Threads;
 use std::time::Instant;
-use xbar_markers::{Call, Gate, open_desks, run_desks};
+use xbar_markers::{Call, CallMarkers, Gate, open_desks, run_desks};
 use xbar_office::audit;
 use xbar_plan::Plan;
 
@@ -64,10 +64,11 @@ pub fn measure<R: Eprint + Clock + Threads + Wait + Sync>(
         begins: true,
     };
     let gates = vec![in alloc; gate; count + count]?;
-    let start = Instant::now(rt)?;
-    let Ok((fabric, desks)) = open_desks(alloc, plan, count, count) else {
+    let Some(markers) = CallMarkers::new(count, count) else {
         return Err(io::ErrorKind::InvalidInput.into());
     };
+    let start = Instant::now(rt)?;
+    let (fabric, desks) = open_desks(alloc, plan, &markers)?;
     let (_desks, records) = run_desks(rt, alloc, &fabric, desks, calls, gates)?;
     let time = start.elapsed(rt)?;
     let jobs = records.len() as u64;

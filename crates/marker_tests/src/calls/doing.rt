@@ -9,7 +9,7 @@ use super::*;
 use crate::fixtures::check_history;
 use test_tools::{check, check_eq};
 use xbar_fabric::{Desk, Fabric, shut_all};
-use xbar_markers::{RunFault, open_desks, run_calls, run_desks};
+use xbar_markers::{CallMarkers, open_desks, run_desks};
 use xbar_office::{End, Job, Record};
 
 fn open_gates(rt: &impl Abort, alloc: Global, count: usize) -> Vec<OpenGate>
@@ -33,7 +33,7 @@ fn do_calls<'p, R: Threads + Wait + Sync + Abort>(
 ) -> Outcome<'p>
     requires { All HasCallNo calls.now }
 {
-    assert!(rt; workers.dialling < 25 && workers.completing < 25);
+    assert!(rt; workers.dialling < 48 && workers.completing < 48);
     let gates = open_gates(rt, alloc, workers.dialling + workers.completing);
     let outcome = run(rt, alloc, plan, calls, workers, gates);
     check_history(rt, alloc, plan, "calls", &outcome.records, &outcome.words);
@@ -159,7 +159,10 @@ fn desks_go_on_with_other_calls(rt: HostRuntime) {
     let calls = four_calls();
     let all = calls.as_slice();
     let (first, second) = (&all[..2], &all[2..]);
-    let Ok((fabric, desks)) = open_desks(alloc, &plan, 2, 2) else {
+    let Some(markers) = CallMarkers::new(2, 2) else {
+        panic!(rt; "these are markers for calls");
+    };
+    let Ok((fabric, desks)) = open_desks(alloc, &plan, &markers) else {
         panic!(rt; "the office is opened");
     };
     let mut records = Vec::new(alloc);
@@ -232,25 +235,27 @@ fn markers_do_many_calls(rt: HostRuntime) {
     }
 }
 
-/// The numbers of markers that dial and of markers that complete calls, and why they can do no
-/// calls.
-const WORKERS: &[(usize, usize, Option<RunFault>)] = &[
-    (0, 0, Some(RunFault::Markers)),
-    (0, 1, Some(RunFault::Markers)),
-    (1, 0, Some(RunFault::Markers)),
-    (0, 48, Some(RunFault::Markers)),
-    (48, 1, Some(RunFault::Markers)),
-    (24, 25, Some(RunFault::Markers)),
-    (1, 47, None),
+/// The most and the fewest markers of each kind.
+const FEW_OF_A_KIND: [Workers; 3] = [
+    Workers {
+        dialling: 1,
+        completing: 1,
+    },
+    Workers {
+        dialling: 1,
+        completing: 47,
+    },
+    Workers {
+        dialling: 47,
+        completing: 1,
+    },
 ];
 
 #[test]
-fn each_kind_of_marker_is_wanted(rt: HostRuntime) {
+fn markers_do_no_calls(rt: HostRuntime) {
     let plan = example(&rt, rt.alloc());
-    for (dialling, completing, wanted) in WORKERS {
-        assert!(rt; *dialling < 50 && *completing < 50);
-        let gates = open_gates(&rt, rt.alloc(), *dialling + *completing);
-        let fault = run_calls(&rt, rt.alloc(), &plan, &[], *dialling, *completing, gates).err();
-        check_eq!(rt; fault, *wanted, "{dialling} {completing}");
+    for workers in FEW_OF_A_KIND {
+        let outcome = do_calls(&rt, rt.alloc(), &plan, &[], workers);
+        check_eq!(rt; outcome.records.len(), 0, "{workers:?}");
     }
 }

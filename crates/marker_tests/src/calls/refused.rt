@@ -2,7 +2,6 @@
 
 use super::*;
 use test_tools::check_eq;
-use xbar_markers::RunFault;
 
 /// Does one call, which is released, or is refused memory.
 fn check_call<R: Threads + Wait + Sync + Abort>(rt: &R, alloc: Global, plan: &Plan) {
@@ -11,12 +10,12 @@ fn check_call<R: Threads + Wait + Sync + Abort>(rt: &R, alloc: Global, plan: &Pl
     if gates.resize(2, OpenGate).is_err() {
         return;
     }
-    match run_calls(rt, alloc, plan, &calls, 1, 1, gates) {
-        Err(fault) => check_eq!(rt; fault, RunFault::Memory),
-        Ok(outcome) => {
-            let counts = (outcome.records.len(), outcome.office.paths().len());
-            check_eq!(rt; counts, (3, 0), "dialled, completed and released");
-        }
+    let Some(markers) = CallMarkers::new(1, 1) else {
+        panic!(rt; "one marker of each kind is enough");
+    };
+    if let Ok(outcome) = run_calls(rt, alloc, plan, &calls, &markers, gates) {
+        let counts = (outcome.records.len(), outcome.office.paths().len());
+        check_eq!(rt; counts, (3, 0), "dialled, completed and released");
     }
 }
 

@@ -71,7 +71,7 @@ fn work_off(rt: &impl Abort, office: &mut Exchange, rhythm: &[(u32, u32)], jobs:
             }
         }
     }
-    office.settle();
+    settle(office);
     for text in jobs {
         take_job(rt, office, 0, jobs, &mut begun);
         go_on_for(office, 0, MOST_STEPS_ALONE);

@@ -1,5 +1,7 @@
 use super::*;
+use crate::fixtures::kinds_of;
 use xbar_core::Exchange;
+use xbar_walk::Unobserved;
 
 pub fn open_exchange<'p>(
     rt: &impl Abort,
@@ -7,7 +9,15 @@ pub fn open_exchange<'p>(
     plan: &'p Plan,
     kinds: &[Kind],
 ) -> Exchange<'p> {
-    Exchange::open(alloc, plan, kinds).expect(rt, "an office is opened")
+    Exchange::open(alloc, plan, &kinds_of(rt, kinds)).expect(rt, "an office is opened")
+}
+
+/// Settles the office, unobserved, which never fails.
+pub fn settle(office: &mut Exchange<'_>) {
+    match xbar_walk::settle(office, &mut Unobserved) {
+        Ok(()) => {}
+        Err(_) => unreachable!(),
+    }
 }
 
 /// An office does nothing for a marker that it doesn't have.

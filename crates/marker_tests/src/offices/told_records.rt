@@ -1,7 +1,7 @@
 //! The records that offices report, and desks that are shut all at once.
 
 use super::*;
-use crate::fixtures::check_history;
+use crate::fixtures::{check_history, kinds_of};
 use xbar_fabric::{Fabric, shut_all};
 use xbar_office::Record;
 
@@ -41,7 +41,8 @@ fn records_that_are_told_are_a_history(rt: HostRuntime) {
 
 /// The words of an office whose new desks are shut all at once.
 fn words_of_new_desks(rt: &impl Abort, alloc: Global, plan: &Plan, kinds: &[Kind]) -> Vec<u64> {
-    let (fabric, desks) = Fabric::open(alloc, plan, kinds).expect(rt, "an office is opened");
+    let kinds = kinds_of(rt, kinds);
+    let (fabric, desks) = Fabric::open(alloc, plan, &kinds).expect(rt, "an office is opened");
     let Ok(words) = shut_all(alloc, fabric, desks) else {
         panic!(rt; "there is memory for the words");
     };

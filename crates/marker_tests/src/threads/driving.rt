@@ -10,7 +10,7 @@ use std::alloc::Global;
 use std::process::Abort;
 use std::thread::{self, Threads, map_vec};
 use xbar_equip::Len;
-use xbar_fabric::{Desk, Fabric, Progress};
+use xbar_fabric::{Desk, Event, Fabric};
 use xbar_office::{Job, Record};
 
 /// How often a desk gives back and begins its job anew before it leaves the job undone.
@@ -43,10 +43,10 @@ pub fn run_on(fabric: &Fabric, shift: &mut DeskAtWork, most: u32) -> bool
 {
     for _made in 0..most {
         match shift.desk.advance(fabric) {
-            Progress::Idle => return true,
+            Event::Idle => return true,
             // If there is no memory for the record, the audit finds it missing.
-            Progress::Finished(record) => return shift.log.push(record).is_ok(),
-            Progress::Moved | Progress::Refused { .. } | Progress::Preferred(_) => {}
+            Event::Finished(record) => return shift.log.push(record).is_ok(),
+            Event::Moved | Event::Refused { .. } | Event::Preferred(_) => {}
         }
     }
     false

@@ -204,7 +204,6 @@ fn input_without_end_is_too_long(rt: HostRuntime) -> Result<(), Fail> {
 }
 
 const TEXTS: &[(EngineFault, &str)] = &[
-    (EngineFault::Markers, "Markers"),
     (EngineFault::Memory, "Memory"),
     (EngineFault::Device, "Device"),
     (EngineFault::Long, "Long"),

@@ -5,7 +5,7 @@ use crossbar5::{PlanSource, Status, do_task, run_replay};
 use crossbar5_task::{DrawForm, Task};
 use std::test::Fail;
 use test_tools::{check, check_eq};
-use xbar_core::Kind;
+use xbar_core::Kinds;
 
 const CALLS: u32 = 120;
 
@@ -50,7 +50,7 @@ fn more_than_a_hundred_paths(rt: HostRuntime) -> Result<(), Fail> {
     let status = run_replay(
         rt.alloc(),
         WIDE_PLAN.as_bytes(),
-        &[Kind::Combined; 2],
+        &Kinds::default(),
         &mut source,
         &mut sink,
     )?;
@@ -91,7 +91,7 @@ fn many_records_are_audited_and_drawn(rt: HostRuntime) -> Result<(), Fail> {
     for (task, end, shown) in OF_MANY_RECORDS {
         let mut source = Counted::new(input.as_bytes());
         let plan = PlanSource::Text(EXAMPLE.as_bytes());
-        let answer = do_task(rt.alloc(), *task, plan, &[], &mut source)?;
+        let answer = do_task(rt.alloc(), *task, plan, &Kinds::default(), &mut source)?;
         let text = str::from_utf8(&answer.text).unwrap_or("this is no text");
         check_eq!(rt; answer.status, Status::Fine, end);
         check!(rt; text.ends_with(*end), "{end}");

@@ -5,6 +5,7 @@ use crossbar5::{EngineFault, PlanSource, Status};
 use crossbar5_live::{open_gates, run_live};
 use std::test::Fail;
 use test_tools::{check, check_eq};
+use xbar_markers::CallMarkers;
 
 const THREE: &str = "C,1,3041,5551234,K\nC,2,1000,5551234,K\nC,3,2000,5551234,K\n";
 
@@ -45,22 +46,21 @@ fn sixty_calls(alloc: Global) -> Result<String, AllocError> {
     Ok(calls)
 }
 
-/// Does calls with `of_each` markers of each kind. Returns the status and the output.
+/// Does calls with these markers. Returns the status and the output.
 fn done<T: Threads + Wait + Sync>(
     threads: &T,
     alloc: Global,
-    of_each: usize,
+    markers: &CallMarkers,
     calls: &str,
 ) -> Result<(Status, Vec<u8>), EngineFault> {
-    let gates = open_gates(alloc, of_each, of_each)?;
+    let gates = open_gates(alloc, markers)?;
     let mut source = Counted::new(calls.as_bytes());
     let mut sink = Counted::new(Vec::new(alloc));
     let status = run_live(
         threads,
         alloc,
         PlanSource::Text(EXAMPLE.as_bytes()),
-        of_each,
-        of_each,
+        markers,
         gates,
         &mut source,
         &mut sink,
@@ -74,7 +74,8 @@ fn calls_are_one_legal_history(rt: HostRuntime) -> Result<(), Fail> {
     let sixty = sixty_calls(rt.alloc())?;
     for (calls, dialled) in [(EXAMPLE_CALLS, 4), (sixty.as_str(), 60)] {
         for of_each in [1, 2] {
-            let (status, written) = done(&rt, rt.alloc(), of_each, calls)?;
+            let markers = CallMarkers::new(of_each, of_each).expect(&rt, "there are few");
+            let (status, written) = done(&rt, rt.alloc(), &markers, calls)?;
             let text = str::from_utf8(&written).unwrap_or("this is no text");
             check_eq!(rt; (status, text.matches(",D,").count()), (Status::Fine, dialled), text);
             let mut streams = Streams::new(rt.alloc(), text, Fails::Nothing);

@@ -6,11 +6,11 @@ use Rattle.crossbar5_c.proofs.call.answer_call.Goals as goal
 pub returns-in-Ok : goal.returns-in-Ok
 returns-in-Ok c =
     let is : slice_get tasks c.args.number ≡ Some c.in-Some.task = search rules in
-    let done = c.in-Ok.ensures.done in
-    Does c.in-Some.task done.0 done.1 is done.2 done.3 done.4
+    let done = c.in-Ok.ensures in
+    Does c.in-Some.task c.in-Some-kinds_for.kinds done.0 is c.in-Some-kinds_for.ensures.named done.1 done.2
 
-pub returns-in-Err-Markers : goal.returns-in-Err-Markers
-returns-in-Err-Markers c =
+pub returns-in_default-kinds_for : goal.returns-in_default-kinds_for
+returns-in_default-kinds_for c =
     let is : slice_get tasks c.args.number ≡ Some c.in-Some.task = search rules in
     RefusesMarkers c.in-Some.task is (search rules) (search rules) (search rules)
 

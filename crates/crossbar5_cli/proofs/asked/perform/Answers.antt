@@ -3,31 +3,24 @@ use Rattle.crossbar5.specs.PlanRefusal.{plan_in}
 use Rattle.crossbar5_cli.specs.Endings.{ending_of_run}
 use Rattle.crossbar5_cli.specs.Named.{IsPlanNamed, files_of, name_in}
 use Rattle.crossbar5_cli.specs.Sentences.{sentence_on_run}
-use Rattle.std.proofs.KnownBytes.{Keeps-refl}
-use Rattle.crossbar5_cli.proofs.Answering.{markers_end, plan_end, run_end}
+use Rattle.crossbar5_cli.proofs.Answering.{plan_end, run_end}
 use Rattle.crossbar5_cli.proofs.asked.perform.Goals as goal
 
 pub returns-in-Err-clause-ends : goal.returns-in-Err-clause-ends
 returns-in-Err-clause-ends g c =
-    markers_end c.args.work.now c.args.kinds.now c.args.file _ _ (option_map (λ lines. lines.items) c.without_markers.result.reasons) c.without_markers.result.sentence
-    c.without_markers.result.ending c.in-Err.fault c.in-Err.ensures.why (search rules) refl (Keeps-refl _)
-    c.without_markers.ensures.ending (search rules) c.without_markers.ensures.sentence
-
-pub returns-in-Err-text_named-clause-ends : goal.returns-in-Err-text_named-clause-ends
-returns-in-Err-text_named-clause-ends g c =
-    plan_end c.args.work.now c.args.kinds.now c.args.file _ _ (option_map (λ lines. lines.items) c.of_plan_file.result.reasons) c.of_plan_file.result.sentence
-    c.of_plan_file.result.ending c.in-Err-text_named.fault c.reason_of.result c.in-Err-text_named.ensures.refused refl refl
+    plan_end c.args.work.now c.args.file _ _ (option_map (λ lines. lines.items) c.of_plan_file.result.reasons) c.of_plan_file.result.sentence
+    c.of_plan_file.result.ending c.in-Err.fault c.reason_of.result c.in-Err.ensures.refused refl refl
     c.of_plan_file.ensures.ending (search rules) c.of_plan_file.ensures.sentence
 
 pub returns-clause-ends : goal.returns-clause-ends
 returns-clause-ends g c =
     let failures : ℕ = g.R.Source.failure_count c.answer-run.new.input - g.R.Source.failure_count c.args.input.now in
     let sentence : c.of_run.result.sentence ≡ sentence_on_run c.answer-run.result c.args.file failures = search rules in
-    let named = subst (IsPlanNamed (files_of (g.S.System.Opens c.args.system.now) (λ it. g.S.File.Read.remaining it) (λ it. g.S.File.Source.failure_count it) (λ it. g.S.File.Source.read_count it)) (name_in c.args.file)) (sym c.source_of-plan.ensures) c.in-Ok-text_named.ensures.named in
-    run_end c.args.work.now c.args.kinds.now c.args.file _ _ (option_map (λ lines. lines.items) c.of_run.result.reasons) c.of_run.result.sentence
+    let named = subst (IsPlanNamed (files_of (g.S.System.Opens c.args.system.now) (λ it. g.S.File.Read.remaining it) (λ it. g.S.File.Source.failure_count it) (λ it. g.S.File.Source.read_count it)) (name_in c.args.file)) (sym c.source_of-plan.ensures) c.in-Ok.ensures.named in
+    run_end c.args.work.now c.args.file _ _ (option_map (λ lines. lines.items) c.of_run.result.reasons) c.of_run.result.sentence
     c.answer-run.result c.of_run.result.ending (plan_in c.source_of-plan.result) named
     (search rules) c.answer-run.ensures.diagnostic c.answer-run.ensures.unwritten (search rules) c.answer-run.ensures.end
-    c.answer-run.ensures.device c.answer-run.ensures.long (search rules)
+    c.answer-run.ensures.device c.answer-run.ensures.long
     c.of_run.ensures.ending c.of_run.ensures.reasons sentence
 
 pub returns-clause-no_failure : goal.returns-clause-no_failure

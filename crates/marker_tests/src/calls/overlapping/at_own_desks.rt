@@ -12,7 +12,7 @@ use std::process::Abort;
 use std::sync::Wait;
 use std::thread::Threads;
 use xbar_fabric::{Desk, Fabric, shut_all};
-use xbar_markers::{Call, open_desks, run_desks};
+use xbar_markers::{Call, CallMarkers, open_desks, run_desks};
 use xbar_office::{Record, audit};
 use xbar_plan::Plan;
 
@@ -63,7 +63,10 @@ fn check_desks<R: Threads + Wait + Sync + Abort>(rt: &R, alloc: Global, plan: &P
     };
     assert!(rt; case.dialling <= case.meetings.len());
     let completing = case.meetings.len() - case.dialling;
-    let Ok((fabric, desks)) = open_desks(alloc, plan, case.dialling, completing) else {
+    let Some(markers) = CallMarkers::new(case.dialling, completing) else {
+        panic!(rt; "these are markers for calls");
+    };
+    let Ok((fabric, desks)) = open_desks(alloc, plan, &markers) else {
         panic!(rt; "the office is opened");
     };
     let calls = two_calls(case.share_a_frame);

@@ -10,16 +10,16 @@ use Rattle.xbar_markers.proofs.calling.run_calls.Goals as goal
 
 pub run_desks-requires-clause-for_markers : goal.run_desks-requires-clause-for_markers
 run_desks-requires-clause-for_markers g c κs within =
-    for_new g.G.Gate.IsAt c.in_ok-fabric.fabric (kinds_of c.args.dialling c.args.completing) c.args.gates.items c.in_ok-fabric.desks.items c.in_ok-fabric.ensures.desks c.requires.for_markers
+    for_new g.G.Gate.IsAt c.in_ok-fabric.fabric (kinds_of c.args.markers.now.dialling c.args.markers.now.completing) c.args.gates.items c.in_ok-fabric.desks.items c.in_ok-fabric.ensures.desks c.requires.for_markers
 
 pub shut_all-requires : goal.shut_all-requires
 shut_all-requires g c = c.in_ok-desks.ensures.idle c.in_ok-fabric.ensures.idle
 
-pub returns-clause-outcome : goal.returns-clause-outcome
-returns-clause-outcome g c =
+pub returns : goal.returns
+returns g c =
     let fabric = c.in_ok-fabric.fabric in
     let plan = c.args.plan.now in
-    let kinds = kinds_of c.args.dialling c.args.completing in
+    let kinds = kinds_of c.args.markers.now.dialling c.args.markers.now.completing in
     let befores = c.in_ok-fabric.desks.items in
     let desks = c.in_ok-desks.desks.items in
     let records = c.in_ok-desks.records.items in

@@ -1,10 +1,7 @@
-use Rattle.std.proofs.Common.{arith, ◌∙◌}
 use Rattle.xbar_markers.proofs.WholeOutcome.{new_by_kind}
 use Rattle.xbar_markers.proofs.opening.open_desks.Goals as goal
 
 pub returns-clause-by_kind : goal.returns-clause-by_kind
 returns-clause-by_kind c =
-    let dialling = c.if-dialling-eq0.false in
-    let completing = c.if-completing-eq0.false in
-    new_by_kind c.in-Ok.opened.0 c.args.dialling c.args.completing c.in-Ok.opened.1.items c.as_slice.result.now c.in-Ok.ensures.desks (c.as_slice.ensures.value ∙ c.in_ok-kinds.ensures)
-    (omega (arith, dialling)) (omega (arith, completing))
+    new_by_kind c.in_ok-opened.opened.0 c.args.markers.now.dialling c.args.markers.now.completing c.in_ok-opened.opened.1.items c.kinds.result.now
+    c.in_ok-opened.ensures.desks c.kinds.ensures.kinds c.kinds.ensures.valid.0 c.kinds.ensures.valid.1

@@ -14,6 +14,6 @@ returns-clause-observed c =
     let k = c.args.marker in
     let within = step_within o after k c.requires c.step-event.ensures.step in
     c.new.ensures
-    ∙ told_is o after k _ _ _ _ (next_is o.exchange k _ c.requires c.next_step-step.ensures)
+    ∙ told_is o after k _ _ _ _ (next_is o.exchange k c.requires _ c.next_step-step.ensures)
     (c.found_by-found.ensures ∙ ap (λ (words : List ℕ). found_by words c.next_step-step.result) c.words.ensures.words)
-    c.step-event.ensures.event c.step-event.ensures.step (next_is after.exchange k _ within c.next_step-next.ensures)
+    c.step-event.ensures.event c.step-event.ensures.step (next_is after.exchange k within _ c.next_step-next.ensures)

@@ -23,7 +23,7 @@ invariant_of-self c =
     let there = marker_read e.markers k c.index_mut.result.now within c.index_mut.ensures.value in
     let is = sym (step_whole plan e k c.self.inside.words.len _ _ _ _ c.as_mut_slice.ensures.value c.self.inside.words.ok.0 c.advance.auto.words (c.advance.ensures.step e.markers there)) in
     let room : HasRoom (after_step plan k e) c.advance.new.records.cap = omega (arith, room_stepped plan e k c.self.inside.records.cap c.self.invariant.1, c.advance.ensures.room) in
-    (subst (IsExchange plan) is (kept_stepped plan c.every_plan_is_lawful.ensures e k c.self.invariant.0), subst (λ (x : Exchange). HasRoom x c.advance.new.records.cap) is room)
+    (subst (IsExchange plan) is (kept_stepped plan c.self.invariant.2 e k c.self.invariant.0), subst (λ (x : Exchange). HasRoom x c.advance.new.records.cap) is room, c.self.invariant.2)
 
 pub returns : goal.returns
 returns c =

@@ -22,7 +22,7 @@ invariant_of-self-2 c =
     λ i. record { words = e.words; markers = slice_set e.markers k (c.begin.ensures i); records = c.reserve.ensures.items i } in
     let work = Does c.args.job_no (begin_with (first_conn c.args.job) c.args.job) in
     let room = room_assigned e k c.reserve.new.self.cap m work (omega (arith, c.in_ok-reserve.ensures.ok, c.reserve.ensures.len, c.len.ensures, c.self.inside.records.ok.0, c.self.inside.markers.ok.0)) in
-    (subst (IsExchange plan) (sym is) (kept_assigned plan c.every_plan_is_lawful.ensures e k c.args.job_no m c.args.job c.self.invariant.0 c.job_is_in_range.ensures there free), subst (λ (x : Exchange). HasRoom x c.reserve.new.self.cap) (sym is) room)
+    (subst (IsExchange plan) (sym is) (kept_assigned plan c.self.invariant.2 e k c.args.job_no m c.args.job c.self.invariant.0 c.job_is_in_range.ensures there free), subst (λ (x : Exchange). HasRoom x c.reserve.new.self.cap) (sym is) room, c.self.invariant.2)
 
 pub returns-clause-ok : goal.returns-clause-ok
 returns-clause-ok c =

@@ -1,8 +1,7 @@
-use Rattle.std.proofs.Common.{◌≡◌, ℕ, sym, ◌∙◌, ap}
+use Rattle.std.proofs.Common.{ℕ, sym, ◌∙◌, ap}
 use Rattle.xbar_moves.specs.Exchange.{Exchange, OfPlan}
-use Rattle.xbar_moves.specs.Moves.{begun_anew, frees_left, given_at, steps}
+use Rattle.xbar_moves.specs.Moves.{begun_anew, frees_left, steps}
 use Rattle.xbar_moves.proofs.Backing.{anew, back_goes, back_rests}
-use Rattle.xbar_moves.proofs.Jobs.{given_is}
 use Rattle.xbar_core.proofs.exchange.Exchange.give_back.Goals as goal
 
 pub returns-in-Given-clause-back : goal.returns-in-Given-clause-back
@@ -10,19 +9,13 @@ returns-in-Given-clause-back c =
     let plan = c.args.self.now.plan in
     let e = c.args.self.now.exchange in
     let k = c.args.marker in
-    let gives = given_is e k c.marker.result.now c.marker.ensures ∙ sym c.in-Given.ensures in
+    let gives = sym c.in-Given.ensures in
     c.give_up.ensures
     ∙ ap (λ (o : OfPlan). record { plan = o.plan; exchange = steps o.plan k (frees_left o.exchange k) o.exchange }) c.restart.ensures
     ∙ ap (λ (count : ℕ). record { plan = plan; exchange = steps plan k count (begun_anew plan k e) }) (anew plan e k gives).1
     ∙ ap (λ (x : Exchange). record { plan = plan; exchange = x }) (sym (back_goes plan e k gives))
 
-pub returns-in_default : goal.returns-in_default
-returns-in_default c =
+pub returns-in_default-clause-back : goal.returns-in_default-clause-back
+returns-in_default-clause-back c =
     let plan = c.args.self.now.plan in
-    let e = c.args.self.now.exchange in
-    let k = c.args.marker in
-    let is : c.given-given.result ≡ given_at e k = c.given-given.ensures ∙ sym (given_is e k c.marker.result.now c.marker.ensures) in
-    record {
-      back = ap (λ (x : Exchange). record { plan = plan; exchange = x }) (sym (back_rests plan e k (λ gives. c.in_default.not-Given (is ∙ gives))));
-      given = is;
-    }
+    ap (λ (x : Exchange). record { plan = plan; exchange = x }) (sym (back_rests plan c.args.self.now.exchange c.args.marker (λ gives. c.in_default.not-Given (c.given-given.ensures ∙ gives))))

@@ -16,7 +16,7 @@ invariant_of-self c =
     let m = c.index_mut.result.now in
     let there = marker_read e.markers k m within c.index_mut.ensures.value in
     let is = ap (λ after. record e { markers = slice_set e.markers k after }) (c.restart.ensures plan) in
-    (subst (IsExchange plan) (sym is) (kept_anew plan e k m c.every_plan_is_lawful.ensures c.self.invariant.0 there), subst (λ (x : Exchange). HasRoom x c.self.inside.records.cap) (sym is) (room_anew plan e k c.self.inside.records.cap m there c.self.invariant.1))
+    (subst (IsExchange plan) (sym is) (kept_anew plan e k m c.self.invariant.2 c.self.invariant.0 there), subst (λ (x : Exchange). HasRoom x c.self.inside.records.cap) (sym is) (room_anew plan e k c.self.inside.records.cap m there c.self.invariant.1), c.self.invariant.2)
 
 pub returns : goal.returns
 returns c =

@@ -16,8 +16,9 @@ invariant_of-self c =
     let within : k < length e.markers = omega (arith, ap (λ (o : OfPlan). length o.exchange.markers) c.self.view_is) in
     let there = marker_read e.markers k c.index_mut.result.now within c.index_mut.ensures.value in
     let is = sym (steps_whole plan e k c.run.result c.self.inside.words.len _ _ _ c.as_mut_slice-words.ensures.value c.self.inside.words.ok.0 c.run.auto.words (c.run.ensures.steps e.markers e.records there)) in (
-      subst (IsExchange plan) is (steps_keep plan (IsExchange plan) k (λ x was. kept_stepped plan c.every_plan_is_lawful.ensures x k was) c.run.result e c.self.invariant.0),
+      subst (IsExchange plan) is (steps_keep plan (IsExchange plan) k (λ x was. kept_stepped plan c.self.invariant.2 x k was) c.run.result e c.self.invariant.0),
       subst (λ (x : Exchange). HasRoom x room) is (steps_keep plan (λ (x : Exchange). HasRoom x room) k (λ x was. room_stepped plan x k room was) c.run.result e c.self.invariant.1),
+      c.self.invariant.2,
     )
 
 pub returns-clause-steps : goal.returns-clause-steps

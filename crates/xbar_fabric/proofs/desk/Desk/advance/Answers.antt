@@ -28,12 +28,12 @@ returns-clause-advanced c =
           let step = reported.0 in
           let same = does_same _ _ _ _ (sym c.in-Some.ensures ∙ step.before_is) in
           let busy = busy_now plan desk.table kind desk.number desk.actor after.actor desk.seen after.seen w.in-Moved.answer step reported.1 in
-          let is = w.result-is ∙ w.moved.ensures desk.number step.number step.attempt (change (office plan) step.attempt w.in-Moved.answer) (c.asked-asked.ensures ∙ ap (λ (a : Attempt). asked_in a.phase) same.1) busy in
+          let is = w.result-is ∙ w.of_answer.ensures desk.number step.number step.attempt (change (office plan) step.attempt w.in-Moved.answer) (c.asked-asked.ensures ∙ ap (λ (a : Attempt). asked_in a.phase) same.1) (λ _. busy) in
           moves plan desk.table kind desk.number desk.actor after.actor desk.seen after.seen w.in-Moved.answer step c.match-advance.result is reported.1
       | in-Finished w ↦
           let reported = subst (desks.HasAdvanced (office plan) desk.number desk.actor after.actor desk.seen after.seen) w.in-Finished.is advanced in
           subst (MarkerHasAdvanced (desk_at desk.table plan kind desk.number desk.actor desk.seen) (desk_at desk.table plan kind desk.number after.actor after.seen)) (sym (w.result-is ∙ ap event.Finished w.record_of.ensures))
-          (finishes_job plan desk.table kind desk.number desk.actor after.actor desk.seen after.seen reported.0 reported.1 (desks.as_record w.in-Finished.reported) c.every_plan_is_lawful.ensures reported.2 reported.3)
+          (finishes_job plan desk.table kind desk.number desk.actor after.actor desk.seen after.seen reported.0 reported.1 (desks.as_record w.in-Finished.reported) c.fabric.invariant.2 reported.2 reported.3)
     ] in
     let setting : c.self.inside.desk.setting ≡ c.fabric.inside.plan.now = ap (λ d. d.plan) c.self.view_is ∙ c.requires.plan_is ∙ sym (ap (λ f. f.plan) c.fabric.view_is) in
     as_seen (λ (old new : DeskView). MarkerHasAdvanced old new c.match-advance.result) plan kind desk after c.args.self.now setting c.advance.ensures.same c.self.view_is all

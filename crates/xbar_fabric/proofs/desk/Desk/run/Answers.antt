@@ -24,4 +24,4 @@ returns-clause-run g c =
     let legal = subst (λ (p : Tables). IsLegal (office p) 0 (office p).opening after.seen) still c.number-number.ensures.legal in
     let ends = subst (λ (k : ℕ). 0 < made → desks.HasEndedIn (office plan) after.seen k after.actor) (ap (λ d. d.number) c.run-made.ensures.run.same) c.run-made.ensures.run.ended in
     as_seen (λ (old new : DeskView). MarkerHasRun c.run-made.result old new) plan kind desk after c.args.self.now setting c.run-made.ensures.run.same c.self.view_is
-    (runs plan desk.table kind desk.number made desk.actor after.actor desk.seen after.seen c.every_plan_is_lawful.ensures legal ends c.run-made.ensures.run.made)
+    (runs plan desk.table kind desk.number made desk.actor after.actor desk.seen after.seen c.fabric.invariant.2 legal ends c.run-made.ensures.run.made)

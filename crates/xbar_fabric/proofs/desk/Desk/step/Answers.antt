@@ -21,4 +21,4 @@ returns-clause-answered c =
     let legal = subst (λ (p : Tables). IsLegal (office p) 0 (office p).opening after.seen) still c.number-number.ensures.legal in
     let ends = subst (λ (k : ℕ). IfSome c.step-answer.result (λ answer. desks.HasEndedIn (office plan) after.seen k after.actor)) (ap (λ d. d.number) c.step-answer.ensures.same) c.step-answer.ensures.ended in
     as_seen (λ (old new : DeskView). IsAnswered old new c.step-answer.result) plan kind desk after c.args.self.now setting c.step-answer.ensures.same c.self.view_is
-    (has_answered plan desk.table kind desk.number desk.actor after.actor desk.seen after.seen c.every_plan_is_lawful.ensures legal _ (λ same. (ap (λ d. d.actor) same, ap (λ d. d.seen) same)) c.step-answer.result c.step-answer.ensures.none c.step-answer.ensures.stepped ends)
+    (has_answered plan desk.table kind desk.number desk.actor after.actor desk.seen after.seen c.fabric.invariant.2 legal _ (λ same. (ap (λ d. d.actor) same, ap (λ d. d.seen) same)) c.step-answer.result c.step-answer.ensures.none c.step-answer.ensures.stepped ends)
