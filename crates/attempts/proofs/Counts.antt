@@ -1,15 +1,9 @@
 -- what an attempt's count comes to after answers one after another
-use Rattle.std.proofs.Common.{◌≡◌, ℕ, ◌+◌, ◌-◌, ◌^◌, ◌<◌, Bool, true, false, List, [], ◌∷◌, ◌++◌, length, refl, sym, ◌∙◌, subst, arith}
-use Rattle.std.specs.Prelude.{◌==◌, Result, Ok, Err, if◌then◌else◌, ⊤}
-use Rattle.std.proofs.lemmas.Bool.{eqb-true}
-use Rattle.turns.specs.Attempt.{AttemptOf, IsAnswer, act_in, begin, change, changed, walk_result, goes_on, operated}
-use Rattle.turns.specs.Bounds.{AreSteady, IsSteady}
-use Rattle.turns.specs.System.{System}
-use Rattle.turns.specs.declared.answer.Answer.{Answer}
-use Rattle.turns.specs.declared.answer.Answer.TheVariants.{Asked, Seized, Held, Preferred, Again, Value, Turn, Done}
-use Rattle.turns.specs.declared.phase.Phase.{Phase}
-use Rattle.turns.specs.declared.phase.Phase.TheVariants.{Requests, Seizes, Tests, Turns, Withdraws, GivesBack, Operates}
-use Rattle.turns.specs.declared.wanted.Wanted.{Wanted}
+use Rattle.std.proofs.Common.{◌≡◌, ℕ, ◌+◌, ◌-◌, ◌^◌, ◌<◌, Bool, true, false, List, [], ◌∷◌, ◌++◌, length, refl, sym, ◌∙◌, subst, arith, ◌==◌, Result, Ok, Err}
+use Rattle.std.proofs.Common.{if◌then◌else◌, eqb-true}
+use Rattle.{std.specs.Prelude.⊤, turns.specs.{Attempt.{AttemptOf, IsAnswer, act_in, begin, change, changed, walk_result, goes_on, operated}, Bounds.AreSteady}}
+use Rattle.turns.specs.{Bounds.IsSteady, System.System, declared.answer.Answer.{Answer, TheVariants.{Asked, Seized, Held, Preferred, Again, Value, Turn, Done}}}
+use Rattle.turns.specs.declared.{phase.Phase.{Phase, TheVariants.{Requests, Seizes, Tests, Turns, Withdraws, GivesBack, Operates}}, wanted.Wanted.Wanted}
 use Rattle.turns.specs.declared.wanted.Wanted.TheVariants.{Seize, Test}
 use Rattle.attempts.specs.Counting.{CountedOf, after_answer, after_answers, count_in, counted, fresh}
 
@@ -54,11 +48,13 @@ module _ (O : System) where
   begun_on a (Err (Seize lock)) some = some
   begun_on a (Err (Test word)) some = some
 
-  begun_operated : (a : AttemptOf O) (turn : ℕ) (effects : List Effect) → a.phase ≡ Operates turn → HasBegun (operated a effects).phase (operated a effects).held
+  begun_operated : (a : AttemptOf O) (turn : ℕ) (effects : List Effect) → a.phase ≡ Operates turn
+      → HasBegun (operated a effects).phase (operated a effects).held
   begun_operated a turn [] at = subst (λ (phase : Phase Lock ℕ). HasBegun phase (operated a []).held) (sym at) tt
   begun_operated a turn (effect ∷ effects) at = subst (λ (phase : Phase Lock ℕ). HasBegun phase a.held) (sym at) tt
 
-  begun_in : (a : AttemptOf O) (phase : Phase Lock ℕ) (answer : Answer) → a.phase ≡ phase → HasBegun phase a.held → IsAnswer O (act_in phase a) answer → IsSteady answer → HasBegun (changed O a phase answer).phase (changed O a phase answer).held
+  begun_in : (a : AttemptOf O) (phase : Phase Lock ℕ) (answer : Answer) → a.phase ≡ phase → HasBegun phase a.held → IsAnswer O (act_in phase a) answer
+      → IsSteady answer → HasBegun (changed O a phase answer).phase (changed O a phase answer).held
   begun_in a (Requests lock) (Asked word) at begun fits steady = tt
   begun_in a (Requests lock) Seized at begun fits steady =
       let more : AttemptOf O = record a { held = a.held ++ lock ∷ [] } in
@@ -85,16 +81,19 @@ module _ (O : System) where
   begun_in a (Operates turn) answer at begun fits steady = subst (λ (phase : Phase Lock ℕ). HasBegun phase a.held) (sym at) tt
 
   -- each steady answer counts one more
-  count_along : (p : CountedOf O) (answers : List Answer) → HasBegun p.attempt.phase p.attempt.held → AreSteady O p.attempt answers → p.count + length answers < 2 ^ 32 → (after_answers O p answers).count ≡ p.count + length answers
+  count_along : (p : CountedOf O) (answers : List Answer) → HasBegun p.attempt.phase p.attempt.held → AreSteady O p.attempt answers
+      → p.count + length answers < 2 ^ 32 → (after_answers O p answers).count ≡ p.count + length answers
   count_along p [] begun steady below = omega arith
   count_along p (answer ∷ answers) begun (fits, steady, later) below =
       let after : AttemptOf O = change O p.attempt answer in
       let still = begun_in p.attempt p.attempt.phase answer refl begun fits steady in
-      let one : (after_answer O p answer).count ≡ p.count + 1 = counts_on after.phase after.held (counted p.count) still ∙ counted_on p.count (omega (arith, below)) in
+      let one : (after_answer O p answer).count ≡ p.count + 1 =
+      counts_on after.phase after.held (counted p.count) still ∙ counted_on p.count (omega (arith, below)) in
       let rest = count_along (after_answer O p answer) answers still later (omega (arith, below, one)) in
       omega (arith, rest, one)
 
-  pub count_is : (job : Job) (answers : List Answer) → AreSteady O (begin O job) answers → length answers < 2 ^ 32 → (after_answers O (fresh O job) answers).count ≡ length answers
+  pub count_is : (job : Job) (answers : List Answer) → AreSteady O (begin O job) answers → length answers < 2 ^ 32
+      → (after_answers O (fresh O job) answers).count ≡ length answers
   count_is job [] steady below = refl
   count_is job (Asked word ∷ answers) (fits, steady, later) below =
       let rest = count_along (after_answer O (fresh O job) (Asked word)) answers tt later (omega (arith, below)) in

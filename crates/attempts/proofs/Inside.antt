@@ -1,27 +1,19 @@
 -- an attempt's fields, as its methods have them, and its view
-use Rattle.std.proofs.Common.{◌≡◌, ℕ, suc, arith, ne_eqb, ◌<◌, ◌+◌, ◌^◌, Bool, true, false, List, [], ◌∷◌, length, refl, sym, ◌∙◌, ap, subst}
-use Rattle.std.specs.Prelude.{◌==◌, if◌then◌else◌, Option, Some, None, IfSome, slice_get}
-use Rattle.turns.specs.Attempt.{Attempt, act, act_in, answer_to, asked_in, closing_act, free_act, turn_in}
-use Rattle.turns.specs.Sharings.{sharing_of}
-use Rattle.turns.specs.declared.act.Act.{Act}
-use Rattle.turns.specs.declared.act.Act.TheVariants.{Free, Finished}
-use Rattle.turns.specs.Runs.{is_finished}
-use Rattle.turns.specs.declared.answer.Answer.{Answer}
-use Rattle.turns.specs.declared.answer.Answer.TheVariants.{Done}
-use Rattle.turns.specs.Outcomes.{is_giving_back}
-use Rattle.turns.specs.declared.phase.Phase.{Phase}
-use Rattle.turns.specs.declared.phase.Phase.TheVariants.{Requests, Seizes, Withdraws, GivesBack, Operates}
-use Rattle.attempts.specs.Counting.{is_at_beginning}
-use Rattle.attempts.specs.WalkOnWords.{WalkState}
-use Rattle.attempts.specs.Validity.{AttemptView, attempt_of, begun_at, effects_left}
-use Rattle.attempts.specs.Answers.{answer_in}
+use Rattle.std.proofs.Common.{◌≡◌, ℕ, suc, arith, ne_eqb, ◌<◌, ◌+◌, ◌^◌, Bool, true, false, List, [], ◌∷◌, length, refl, sym, ◌∙◌, ap, subst, ◌==◌}
+use Rattle.std.proofs.Common.{if◌then◌else◌, Option, Some, None, IfSome, slice_get}
+use Rattle.turns.specs.{Attempt.{Attempt, act, act_in, answer_to, asked_in, closing_act, free_act, turn_in}, Sharings.sharing_of, declared.act.Act.Act}
+use Rattle.turns.specs.declared.{act.Act.TheVariants.{Free, Finished}, answer.Answer.{Answer, TheVariants.Done}, phase.Phase.Phase}
+use Rattle.turns.specs.{declared.phase.Phase.TheVariants.{Requests, Seizes, Withdraws, GivesBack, Operates}, Runs.is_finished, Outcomes.is_giving_back}
+use Rattle.attempts.specs.{Counting.is_at_beginning, WalkOnWords.WalkState, Validity.{AttemptView, attempt_of, begun_at, effects_left}, Answers.answer_in}
 use Rattle.attempts.specs.SystemWith.{SystemWith, system_with}
 
 -- what its phase tells
-pub in_phase : {Lock Job Decision ResumePoint A : Type 0} (f : AttemptView Lock Job Decision ResumePoint → Phase Lock ℕ → A) (p now : AttemptView Lock Job Decision ResumePoint) (phase : Phase Lock ℕ) → p ≡ now → p.phase ≡ phase → f p phase ≡ f now now.phase
+pub in_phase : {Lock Job Decision ResumePoint A : Type 0} (f : AttemptView Lock Job Decision ResumePoint → Phase Lock ℕ → A)
+    (p now : AttemptView Lock Job Decision ResumePoint) (phase : Phase Lock ℕ) → p ≡ now → p.phase ≡ phase → f p phase ≡ f now now.phase
 in_phase f p now phase inside is = ap (f p) (sym is) ∙ ap (λ (x : AttemptView _ _ _ _). f x x.phase) inside
 
-pub phase_now : {Lock Job Decision ResumePoint : Type 0} (p now : AttemptView Lock Job Decision ResumePoint) (phase : Phase Lock ℕ) → p ≡ now → p.phase ≡ phase → now.phase ≡ phase
+pub phase_now : {Lock Job Decision ResumePoint : Type 0} (p now : AttemptView Lock Job Decision ResumePoint) (phase : Phase Lock ℕ) → p ≡ now → p.phase ≡ phase
+    → now.phase ≡ phase
 phase_now p now phase inside is = sym (ap (λ (x : AttemptView _ _ _ _). x.phase) inside) ∙ is
 
 pub same_phase : {Lock Job Decision ResumePoint : Type 0} (p now : AttemptView Lock Job Decision ResumePoint) → p ≡ now → p.phase ≡ now.phase
@@ -31,17 +23,33 @@ pub same_count : {Lock Job Decision ResumePoint : Type 0} (p now : AttemptView L
 same_count p now inside = ap (λ (x : AttemptView _ _ _ _). x.count) inside
 
 -- with more, or less, that is held or read
-pub with_seen : {Lock Job Decision ResumePoint : Type 0} (p now : AttemptView Lock Job Decision ResumePoint) (state made : WalkState Lock) (of : AttemptView Lock Job Decision ResumePoint → AttemptView Lock Job Decision ResumePoint) → p ≡ now → state ≡ made → record p { readings = made.seen.readings; held = made.seen.held } ≡ of p → record p { readings = state.seen.readings; held = state.seen.held } ≡ of now
+pub with_seen : {Lock Job Decision ResumePoint : Type 0} (p now : AttemptView Lock Job Decision ResumePoint) (state made : WalkState Lock)
+    (of : AttemptView Lock Job Decision ResumePoint → AttemptView Lock Job Decision ResumePoint) → p ≡ now → state
+    ≡ made → record p { readings = made.seen.readings; held = made.seen.held } ≡ of p → record p { readings = state.seen.readings; held = state.seen.held }
+    ≡ of now
 with_seen p now state made of inside is so = ap (λ (x : WalkState _). record p { readings = x.seen.readings; held = x.seen.held }) is ∙ so ∙ ap of inside
 
-pub forgets : {Lock Job Decision ResumePoint : Type 0} (p now : AttemptView Lock Job Decision ResumePoint) (state : WalkState Lock) (left held_word : ℕ) → p ≡ now → state ≡ record { seen = record { held = p.held; readings = [] }; left = left; held_word = held_word } → record p { readings = state.seen.readings; held = state.seen.held; decision = None; made = 0 } ≡ record now { readings = []; decision = None; made = 0 }
-forgets p now state left held_word inside is = ap (λ (x : WalkState _). record p { readings = x.seen.readings; held = x.seen.held; decision = None; made = 0 }) is ∙ ap (λ (x : AttemptView _ _ _ _). record x { readings = []; decision = None; made = 0 }) inside
+pub forgets : {Lock Job Decision ResumePoint : Type 0} (p now : AttemptView Lock Job Decision ResumePoint) (state : WalkState Lock) (left held_word : ℕ)
+    → p ≡ now → state ≡ record { seen = record { held = p.held; readings = [] }; left = left; held_word = held_word }
+    → record p { readings = state.seen.readings; held = state.seen.held; decision = None; made = 0 } ≡ record now { readings = []; decision = None; made = 0 }
+forgets p now state left held_word inside is =
+    ap (λ (x : WalkState _). record p { readings = x.seen.readings; held = x.seen.held; decision = None; made = 0 }) is
+    ∙ ap (λ (x : AttemptView _ _ _ _). record x { readings = []; decision = None; made = 0 }) inside
 
-pub begins_anew : {Lock Job Decision ResumePoint : Type 0} (p now new : AttemptView Lock Job Decision ResumePoint) (held : List Lock) (first : Lock) (point : ResumePoint) → p ≡ now → held ≡ [] → new ≡ record p { point = point; readings = []; held = held; phase = Requests first; decision = None; made = 0 } → new ≡ record (begun_at now.job first point) { count = now.count }
-begins_anew p now new held first point inside none made = made ∙ ap (λ (h : List _). record p { point = point; readings = []; held = h; phase = Requests first; decision = None; made = 0 }) none ∙ ap (λ (x : AttemptView _ _ _ _). record (begun_at x.job first point) { count = x.count }) inside
+pub begins_anew : {Lock Job Decision ResumePoint : Type 0} (p now new : AttemptView Lock Job Decision ResumePoint) (held : List Lock) (first : Lock)
+    (point : ResumePoint) → p ≡ now → held ≡ [] → new
+    ≡ record p { point = point; readings = []; held = held; phase = Requests first; decision = None; made = 0 } → new
+    ≡ record (begun_at now.job first point) { count = now.count }
+begins_anew p now new held first point inside none made =
+    made ∙ ap (λ (h : List _). record p { point = point; readings = []; held = h; phase = Requests first; decision = None; made = 0 }) none
+    ∙ ap (λ (x : AttemptView _ _ _ _). record (begun_at x.job first point) { count = x.count }) inside
 
 -- with nothing read and nothing held
-pub is_new : {Lock Job Decision ResumePoint : Type 0} (job : Job) (point : ResumePoint) (first : Lock) (state : WalkState Lock) → state ≡ record { seen = record { held = []; readings = [] }; left = 0; held_word = 0 } → ◌≡◌ {A = AttemptView Lock Job Decision ResumePoint} (record { job = job; point = point; readings = state.seen.readings; held = state.seen.held; phase = Requests first; decision = None; made = 0; count = 0 }) (begun_at job first point)
+pub is_new : {Lock Job Decision ResumePoint : Type 0} (job : Job) (point : ResumePoint) (first : Lock) (state : WalkState Lock)
+    → state ≡ record { seen = record { held = []; readings = [] }; left = 0; held_word = 0 }
+    → ◌≡◌ {A = AttemptView Lock Job Decision ResumePoint}
+    (record { job = job; point = point; readings = state.seen.readings; held = state.seen.held; phase = Requests first; decision = None; made = 0; count = 0 })
+    (begun_at job first point)
 is_new {Lock} {Job} {Decision} {ResumePoint} job point first state is = ap made is where
   made : WalkState Lock → AttemptView Lock Job Decision ResumePoint
   made x = record { job = job; point = point; readings = x.seen.readings; held = x.seen.held; phase = Requests first; decision = None; made = 0; count = 0 }
@@ -56,7 +64,8 @@ has_begun (Requests lock) held not = absurd (not lock refl)
 has_begun phase held not = refl
 
 -- nor does it ask for a lock, or give one up, and there is a step to make
-pub asks_none : {Lock : Type 0} (phase : Phase Lock ℕ) → ((lock : Lock) → phase ≡ Requests lock → ⊥) → ((lock : Lock) (expected : ℕ) → phase ≡ Seizes lock expected → ⊥) → None ≡ asked_in phase
+pub asks_none : {Lock : Type 0} (phase : Phase Lock ℕ) → ((lock : Lock) → phase ≡ Requests lock → ⊥)
+    → ((lock : Lock) (expected : ℕ) → phase ≡ Seizes lock expected → ⊥) → None ≡ asked_in phase
 asks_none (Requests lock) neither not = absurd (neither lock refl)
 asks_none (Seizes lock expected) neither not = absurd (not lock expected refl)
 asks_none phase neither not = refl
@@ -66,19 +75,25 @@ goes_ahead (Withdraws lock) neither not = absurd (neither lock refl)
 goes_ahead GivesBack neither not = absurd (not refl)
 goes_ahead phase neither not = refl
 
-pub is_busy : {Lock Job Reply Effect Decision ResumePoint : Type 0} (reply_of : Decision → Reply) (effects_of : Decision → List Effect) (p now : AttemptView Lock Job Decision ResumePoint) → p ≡ now → (p.phase ≡ GivesBack → ⊥) → ((turn : ℕ) → p.phase ≡ Operates turn → ⊥) → false ≡ is_finished (act (attempt_of reply_of effects_of now))
-is_busy {Lock} reply_of effects_of p now inside neither not = at p.phase neither not ∙ ap (λ (x : AttemptView _ _ _ _). is_finished (act (attempt_of reply_of effects_of x))) inside where
-  at : (phase : Phase Lock ℕ) → (phase ≡ GivesBack → ⊥) → ((turn : ℕ) → phase ≡ Operates turn → ⊥) → false ≡ is_finished (act_in phase (attempt_of reply_of effects_of p))
-  at GivesBack neither not = absurd (neither refl)
-  at (Operates turn) neither not = absurd (not turn refl)
-  at phase neither not = refl
+pub is_busy : {Lock Job Reply Effect Decision ResumePoint : Type 0} (reply_of : Decision → Reply) (effects_of : Decision → List Effect)
+    (p now : AttemptView Lock Job Decision ResumePoint) → p ≡ now → (p.phase ≡ GivesBack → ⊥) → ((turn : ℕ) → p.phase ≡ Operates turn → ⊥) → false
+    ≡ is_finished (act (attempt_of reply_of effects_of now))
+is_busy {Lock} reply_of effects_of p now inside neither not =
+    at p.phase neither not ∙ ap (λ (x : AttemptView _ _ _ _). is_finished (act (attempt_of reply_of effects_of x))) inside where
+      at : (phase : Phase Lock ℕ) → (phase ≡ GivesBack → ⊥) → ((turn : ℕ) → phase ≡ Operates turn → ⊥)
+          → false ≡ is_finished (act_in phase (attempt_of reply_of effects_of p))
+      at GivesBack neither not = absurd (neither refl)
+      at (Operates turn) neither not = absurd (not turn refl)
+      at phase neither not = refl
 
 -- its fields have room if its view has
-pub has_room : {Lock Job Decision ResumePoint : Type 0} (p now : AttemptView Lock Job Decision ResumePoint) (most : ℕ) → p ≡ now → length now.held < most → length p.held < most
+pub has_room : {Lock Job Decision ResumePoint : Type 0} (p now : AttemptView Lock Job Decision ResumePoint) (most : ℕ) → p ≡ now → length now.held < most
+    → length p.held < most
 has_room p now most inside room = subst (λ (x : AttemptView _ _ _ _). length x.held < most) (sym inside) room
 
 -- with another count
-pub recounts : {Lock Job Decision ResumePoint : Type 0} (p now : AttemptView Lock Job Decision ResumePoint) (count : ℕ) (of : AttemptView Lock Job Decision ResumePoint → ℕ) → p ≡ now → count ≡ of now → record p { count = count } ≡ record now { count = of now }
+pub recounts : {Lock Job Decision ResumePoint : Type 0} (p now : AttemptView Lock Job Decision ResumePoint) (count : ℕ)
+    (of : AttemptView Lock Job Decision ResumePoint → ℕ) → p ≡ now → count ≡ of now → record p { count = count } ≡ record now { count = of now }
 recounts p now count of inside is = ap (λ (n : ℕ). record p { count = n }) is ∙ ap (λ (x : AttemptView _ _ _ _). record x { count = of now }) inside
 
 pub counts_from_none : (count more : ℕ) (fresh made_none : Bool) → count ≡ 0 → fresh ≡ true → fresh ≡ made_none → count ≡ (if made_none then 0 else more)
@@ -101,14 +116,18 @@ none_to_free Effect [] = refl
 none_to_free Effect (lock ∷ held) = ne_eqb (suc (length held)) 0 (λ e. omega (arith, e))
 
 -- undecided, it has no effect left to make
-pub undecided : {Lock Job Decision ResumePoint Effect : Type 0} (effects_of : Decision → List Effect) (p now : AttemptView Lock Job Decision ResumePoint) → p ≡ now → p.decision ≡ None → effects_left effects_of now.decision now.made ≡ []
-undecided effects_of p now inside none = sym (ap (λ (x : AttemptView _ _ _ _). effects_left effects_of x.decision x.made) inside) ∙ ap (λ (d : Option _). effects_left effects_of d p.made) none
+pub undecided : {Lock Job Decision ResumePoint Effect : Type 0} (effects_of : Decision → List Effect) (p now : AttemptView Lock Job Decision ResumePoint)
+    → p ≡ now → p.decision ≡ None → effects_left effects_of now.decision now.made ≡ []
+undecided effects_of p now inside none =
+    sym (ap (λ (x : AttemptView _ _ _ _). effects_left effects_of x.decision x.made) inside) ∙ ap (λ (d : Option _). effects_left effects_of d p.made) none
 
-pub more_fits : {Lock Job Decision ResumePoint Effect : Type 0} (p now : AttemptView Lock Job Decision ResumePoint) (found : Option Effect) → p ≡ now → IfSome found (λ effect. p.made + 1 < 2 ^ 64) → IfSome found (λ effect. now.made + 1 < 2 ^ 64)
+pub more_fits : {Lock Job Decision ResumePoint Effect : Type 0} (p now : AttemptView Lock Job Decision ResumePoint) (found : Option Effect) → p ≡ now
+    → IfSome found (λ effect. p.made + 1 < 2 ^ 64) → IfSome found (λ effect. now.made + 1 < 2 ^ 64)
 more_fits p now found inside more = subst (λ (x : AttemptView _ _ _ _). IfSome found (λ effect. x.made + 1 < 2 ^ 64)) inside more
 
 -- the answer to its next step depends on its phase alone
-module _ {Lock Job Reply Effect Decision : Type 0} (same : Lock → Lock → Bool) (reply_of : Decision → Reply) (effects_of : Decision → List Effect) (S : SystemWith Lock Job Reply Effect Decision) (k found : ℕ) where
+module _ {Lock Job Reply Effect Decision : Type 0} (same : Lock → Lock → Bool) (reply_of : Decision → Reply) (effects_of : Decision → List Effect)
+    (S : SystemWith Lock Job Reply Effect Decision) (k found : ℕ) where
   abbrev answered : Act Lock Effect → Answer
   answered step = answer_to (system_with same reply_of effects_of S) k step found
 

@@ -20,3 +20,4 @@ pub mod WalkEnds
 pub mod WalkRuns
 pub mod LeadsOn
 pub mod Marked
+pub mod OneStep

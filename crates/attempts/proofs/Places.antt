@@ -1,24 +1,14 @@
 -- an attempt has room for what is left of its script, and its next step is on a word of the system
 use Rattle.std.proofs.Common.{◌≡◌, ℕ, Bool, true, false, ◌+◌, ◌-◌, ◌<◌, ◌^◌, List, [], ◌∷◌, ◌++◌, length, length-append, inl, inr, refl, sym, subst, arith}
-use Rattle.std.specs.Prelude.{Result, Ok, Err, if◌then◌else◌}
-use Rattle.turns.specs.Attempt.{AttemptOf, IsValidIn, act, act_in, closing_act, free_act, begin, change, changed, walk_result, denied, forgotten, giving_back, goes_on, operated, read_in, rest_of, restarted, restarted_in, seen_of}
-use Rattle.turns.specs.Script.{AsksAtMost, left, walk}
-use Rattle.turns.specs.Seen.{Seen, AreReadWords}
-use Rattle.turns.specs.System.{System, IsSystem, DecidesUnder, IsUnder}
-use Rattle.turns.specs.World.{place}
-use Rattle.turns.specs.declared.answer.Answer.{Answer}
-use Rattle.turns.specs.declared.answer.Answer.TheVariants.{Asked, Seized, Held, Preferred, Again, Value, Turn, Done}
-use Rattle.turns.specs.declared.phase.Phase.{Phase}
-use Rattle.turns.specs.declared.phase.Phase.TheVariants.{Requests, Seizes, Tests, Turns, Withdraws, GivesBack, Operates}
-use Rattle.turns.specs.declared.reading.Reading.{Reading}
-use Rattle.turns.specs.declared.wanted.Wanted.{Wanted}
-use Rattle.turns.specs.declared.wanted.Wanted.TheVariants.{Seize, Test}
-use Rattle.turns.proofs.Keeping.{FitsHeld, WalkFits}
-use Rattle.turns.proofs.Lists.{in_more}
+use Rattle.std.proofs.Common.{Result, Ok, Err, if◌then◌else◌}
+use Rattle.turns.specs.Attempt.{AttemptOf, IsValidIn, act, act_in, closing_act, free_act, begin, change, changed, walk_result, denied, forgotten, giving_back}
+use Rattle.turns.specs.{Attempt.{goes_on, operated, read_in, rest_of, restarted, restarted_in, seen_of}, Script.{AsksAtMost, left, walk}}
+use Rattle.turns.specs.{Seen.{Seen, AreReadWords}, System.{System, IsSystem, DecidesUnder, IsUnder}, World.place, declared.answer.Answer.Answer}
+use Rattle.turns.specs.declared.{answer.Answer.TheVariants.{Asked, Seized, Held, Preferred, Again, Value, Turn, Done}, phase.Phase.Phase}
+use Rattle.turns.specs.declared.{phase.Phase.TheVariants.{Requests, Seizes, Tests, Turns, Withdraws, GivesBack, Operates}, reading.Reading.Reading}
+use Rattle.turns.{specs.declared.wanted.Wanted.{Wanted, TheVariants.{Seize, Test}}, proofs.{Keeping.{FitsHeld, WalkFits}, Lists.in_more}}
 use Rattle.turns.proofs.Room.{Grows, held_last, held_before, read_last, read_before, left_asks, seized_at, read_at}
-use Rattle.turns.proofs.Standing.{come_fits, stands_begin, stands_change, stands_restarted, wanted_lock}
-use Rattle.turns.proofs.SteadyAttempts.{job_stays}
-use Rattle.turns.proofs.Words.{read_more}
+use Rattle.turns.proofs.{Standing.{come_fits, stands_begin, stands_change, stands_restarted, wanted_lock}, SteadyAttempts.job_stays, Words.read_more}
 use Rattle.attempts.specs.Validity.{AreLocks, AreThere, IsValidInBounds, HasRoom, HasRoomIn}
 use Rattle.attempts.specs.Applied as taken
 
@@ -41,7 +31,8 @@ read_still GivesBack readings read = none_read
 read_still (Operates turn) readings read = none_read
 read_still phase readings read = read
 
-module _ (O : System) (is : IsSystem O) (most_readings most_held : ℕ) (asks : (job : O.Job) → O.IsJob job → AsksAtMost most_readings most_held (O.script job)) where
+module _ (O : System) (is : IsSystem O) (most_readings most_held : ℕ)
+    (asks : (job : O.Job) → O.IsJob job → AsksAtMost most_readings most_held (O.script job)) where
   open O use {Lock, Job, Effect, Decision}
 
   itself : (lock : Lock) → O.same lock lock ≡ true
@@ -59,12 +50,15 @@ module _ (O : System) (is : IsSystem O) (most_readings most_held : ℕ) (asks : 
   abbrev There : List Effect → Type 0
   There effects = AreThere O most_readings most_held effects
 
-  pub room_seized : (a : AttemptOf O) (lock : Lock) → AreReadWords a.readings → walk_result O a ≡ Err (Seize lock) → Room a → RoomAfter (Room (record a { held = a.held ++ lock ∷ [] })) (length a.held) most_held
+  pub room_seized : (a : AttemptOf O) (lock : Lock) → AreReadWords a.readings → walk_result O a ≡ Err (Seize lock) → Room a
+      → RoomAfter (Room (record a { held = a.held ++ lock ∷ [] })) (length a.held) most_held
   unfolding walk
   room_seized a lock read come fits =
       let more : Seen Lock = record { held = a.held ++ lock ∷ []; readings = a.readings } in
       let grows : Grows O.same itself (seen_of a) more = record { held = λ c e. held_before O.same itself a.held lock c e; readings = λ word value e. e } in
-      let room = seized_at O.same itself (seen_of a) more lock (most_readings - length a.readings) (most_held - length a.held) (O.script a.job) (left O.same (seen_of a) (O.script a.job)) grows read (held_last O.same itself a.held lock) refl come fits in
+      let room =
+      seized_at O.same itself (seen_of a) more lock (most_readings - length a.readings) (most_held - length a.held) (O.script a.job)
+      (left O.same (seen_of a) (O.script a.job)) grows read (held_last O.same itself a.held lock) refl come fits in
       let size : length (a.held ++ lock ∷ []) ≡ length a.held + 1 = length-append a.held (lock ∷ []) in
       let rest : room.rest ≡ most_held - length (a.held ++ lock ∷ []) = omega (arith, room.one, size) in
       record {
@@ -72,12 +66,16 @@ module _ (O : System) (is : IsSystem O) (most_readings most_held : ℕ) (asks : 
         room = subst (λ (n : ℕ). AsksAtMost (most_readings - length a.readings) n (left O.same more (O.script a.job))) rest room.asks;
       }
 
-  pub room_read : (a : AttemptOf O) (reading : Reading ℕ) → AreReadWords a.readings → reading.value < 2 ^ 64 → walk_result O a ≡ Err (Test reading.word) → Room a → RoomAfter (Room (record a { readings = a.readings ++ reading ∷ [] })) (length a.readings) most_readings
+  pub room_read : (a : AttemptOf O) (reading : Reading ℕ) → AreReadWords a.readings → reading.value < 2 ^ 64 → walk_result O a ≡ Err (Test reading.word)
+      → Room a → RoomAfter (Room (record a { readings = a.readings ++ reading ∷ [] })) (length a.readings) most_readings
   unfolding walk
   room_read a reading read below come fits =
       let more : Seen Lock = record { held = a.held; readings = a.readings ++ reading ∷ [] } in
-      let grows : Grows O.same itself (seen_of a) more = record { held = λ c e. e; readings = λ word value e. read_before O.same itself a.readings reading word value e } in
-      let room = read_at O.same itself (seen_of a) more reading.word (most_readings - length a.readings) (most_held - length a.held) (O.script a.job) (left O.same (seen_of a) (O.script a.job)) grows (read_more a.readings reading read below) (read_last O.same itself a.readings reading) refl come fits in
+      let grows : Grows O.same itself (seen_of a) more =
+      record { held = λ c e. e; readings = λ word value e. read_before O.same itself a.readings reading word value e } in
+      let room =
+      read_at O.same itself (seen_of a) more reading.word (most_readings - length a.readings) (most_held - length a.held) (O.script a.job)
+      (left O.same (seen_of a) (O.script a.job)) grows (read_more a.readings reading read below) (read_last O.same itself a.readings reading) refl come fits in
       let size : length (a.readings ++ reading ∷ []) ≡ length a.readings + 1 = length-append a.readings (reading ∷ []) in
       let rest : room.rest ≡ most_readings - length (a.readings ++ reading ∷ []) = omega (arith, room.one, size) in
       record {
@@ -88,10 +86,12 @@ module _ (O : System) (is : IsSystem O) (most_readings most_held : ℕ) (asks : 
   -- one that has just begun has room for all of its script
   room_begin : (job : Job) → O.IsJob job → Room (begin O job)
   room_begin job right =
-      let all : AsksAtMost most_readings most_held (left O.same (seen_of (begin O job)) (O.script job)) = left_asks O.same itself (record { held = []; readings = [] }) most_readings most_held (O.script job) none_read (asks job right) in
+      let all : AsksAtMost most_readings most_held (left O.same (seen_of (begin O job)) (O.script job)) =
+      left_asks O.same itself (record { held = []; readings = [] }) most_readings most_held (O.script job) none_read (asks job right) in
       let tests : most_readings ≡ most_readings - 0 = omega arith in
       let seizings : most_held ≡ most_held - 0 = omega arith in
-      subst (λ (n : ℕ). AsksAtMost n (most_held - 0) (left O.same (seen_of (begin O job)) (O.script job))) tests (subst (λ (n : ℕ). AsksAtMost most_readings n (left O.same (seen_of (begin O job)) (O.script job))) seizings all)
+      subst (λ (n : ℕ). AsksAtMost n (most_held - 0) (left O.same (seen_of (begin O job)) (O.script job))) tests
+      (subst (λ (n : ℕ). AsksAtMost most_readings n (left O.same (seen_of (begin O job)) (O.script job))) seizings all)
 
   room_freed : (a : AttemptOf O) (held : List Lock) → O.IsJob a.job → RoomIn (giving_back O a held) (giving_back O a held).phase
   room_freed a [] right = room_begin a.job right
@@ -107,12 +107,14 @@ module _ (O : System) (is : IsSystem O) (most_readings most_held : ℕ) (asks : 
   room_operated a turn [] at = subst (λ (phase : Phase Lock ℕ). RoomIn (operated a []) phase) (sym at) tt
   room_operated a turn (effect ∷ effects) at = subst (λ (phase : Phase Lock ℕ). RoomIn (operated a (effect ∷ effects)) phase) (sym at) tt
 
-  room_denied : (asks : Bool) (a : AttemptOf O) (lock : Lock) → O.IsJob a.job → RoomIn (if asks then denied a lock else giving_back O (forgotten a) a.held) (if asks then denied a lock else giving_back O (forgotten a) a.held).phase
+  room_denied : (asks : Bool) (a : AttemptOf O) (lock : Lock) → O.IsJob a.job
+      → RoomIn (if asks then denied a lock else giving_back O (forgotten a) a.held) (if asks then denied a lock else giving_back O (forgotten a) a.held).phase
   room_denied true a lock right = tt
   room_denied false a lock right = room_freed (forgotten a) a.held right
 
   -- whatever the answer to its step, a valid attempt has room again
-  room_changed : (a : AttemptOf O) (phase : Phase Lock ℕ) (answer : Answer) → FitsValue answer → O.IsJob a.job → AreReadWords a.readings → a.phase ≡ phase → RoomIn a a.phase → IsValidIn O a phase → RoomIn a phase → RoomIn (changed O a phase answer) (changed O a phase answer).phase
+  room_changed : (a : AttemptOf O) (phase : Phase Lock ℕ) (answer : Answer) → FitsValue answer → O.IsJob a.job → AreReadWords a.readings → a.phase ≡ phase
+      → RoomIn a a.phase → IsValidIn O a phase → RoomIn a phase → RoomIn (changed O a phase answer) (changed O a phase answer).phase
   room_changed a (Requests lock) (Asked told) fits right read at all valid room = room
   room_changed a (Requests lock) Seized fits right read at all valid room =
       let more : AttemptOf O = record a { held = a.held ++ lock ∷ [] } in
@@ -163,7 +165,8 @@ module _ (O : System) (is : IsSystem O) (most_readings most_held : ℕ) (asks : 
   }
 
   keeps_on : (a : AttemptOf O) (found : Result Decision (Wanted Lock ℕ)) → O.IsJob a.job → walk_result O a ≡ found → Keeps a → Keeps (goes_on O a found)
-  keeps_on a (Ok decision) right come keeps = keeps_decided a decision (subst (WalkFits O (DecidesUnder O) a.held) come (come_fits O is a right keeps.read)) keeps
+  keeps_on a (Ok decision) right come keeps =
+      keeps_decided a decision (subst (WalkFits O (DecidesUnder O) a.held) come (come_fits O is a right keeps.read)) keeps
   keeps_on a (Err (Seize lock)) right come keeps = record { held = keeps.held; read = keeps.read; effects = keeps.effects }
   keeps_on a (Err (Test word)) right come keeps = record { held = keeps.held; read = keeps.read; effects = keeps.effects }
 
@@ -203,7 +206,8 @@ module _ (O : System) (is : IsSystem O) (most_readings most_held : ℕ) (asks : 
   keeps_denied true a lock keeps = keeps_in (forgotten a) (Withdraws lock) (keeps_put_off a keeps)
   keeps_denied false a lock keeps = keeps_given_up a keeps
 
-  keeps_changed : (a : AttemptOf O) (phase : Phase Lock ℕ) (answer : Answer) → FitsValue answer → O.IsJob a.job → IsValidIn O a phase → Keeps a → Keeps (changed O a phase answer)
+  keeps_changed : (a : AttemptOf O) (phase : Phase Lock ℕ) (answer : Answer) → FitsValue answer → O.IsJob a.job → IsValidIn O a phase → Keeps a
+      → Keeps (changed O a phase answer)
   keeps_changed a (Requests lock) (Asked word) fits right valid keeps = keeps_in a (Seizes lock word) keeps
   keeps_changed a (Requests lock) Seized fits right valid keeps =
       let more : AttemptOf O = record a { held = a.held ++ lock ∷ [] } in
@@ -303,12 +307,15 @@ module _ (O : System) (is : IsSystem O) (most_readings most_held : ℕ) (asks : 
   -- in its phase, an attempt has room for what the phase says that it needs
   pub fits_seize : (a : AttemptOf O) (lock : Lock) (expected : ℕ) → a.phase ≡ Seizes lock expected → Placed a → length a.held < most_held
   fits_seize a lock expected e p =
-      (room_seized a lock p.read (subst (λ (phase : Phase Lock ℕ). IsValidIn O a phase) e p.comes) (subst (λ (phase : Phase Lock ℕ). RoomIn a phase) e p.room)).fits
+      (room_seized a lock p.read (subst (λ (phase : Phase Lock ℕ). IsValidIn O a phase) e p.comes)
+      (subst (λ (phase : Phase Lock ℕ). RoomIn a phase) e p.room)).fits
 
   pub fits_request : (a : AttemptOf O) (lock : Lock) → a.phase ≡ Requests lock → Placed a → length a.held < most_held
   fits_request a lock e p =
-      (room_seized a lock p.read (subst (λ (phase : Phase Lock ℕ). IsValidIn O a phase) e p.comes) (subst (λ (phase : Phase Lock ℕ). RoomIn a phase) e p.room)).fits
+      (room_seized a lock p.read (subst (λ (phase : Phase Lock ℕ). IsValidIn O a phase) e p.comes)
+      (subst (λ (phase : Phase Lock ℕ). RoomIn a phase) e p.room)).fits
 
   pub fits_test : (a : AttemptOf O) (word : ℕ) → a.phase ≡ Tests word → Placed a → length a.readings < most_readings
   fits_test a word e p =
-      (room_read a (record { word = word; value = 0 }) p.read (omega arith) (subst (λ (phase : Phase Lock ℕ). IsValidIn O a phase) e p.comes) (subst (λ (phase : Phase Lock ℕ). RoomIn a phase) e p.room)).fits
+      (room_read a (record { word = word; value = 0 }) p.read (omega arith) (subst (λ (phase : Phase Lock ℕ). IsValidIn O a phase) e p.comes)
+      (subst (λ (phase : Phase Lock ℕ). RoomIn a phase) e p.room)).fits

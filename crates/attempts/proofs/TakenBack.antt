@@ -1,16 +1,12 @@
 -- what was read, without the last readings
-use Rattle.std.proofs.Common.{◌≡◌, ℕ, zero, suc, Bool, true, false, List, [], ◌∷◌, refl, sym, ◌∙◌, ap, inl, inr}
-use Rattle.std.specs.Prelude.{◌⊎◌, ◌==◌, Option, Some, None, find, if◌then◌else◌, option_map, take}
-use Rattle.std.proofs.lemmas.Bool.{eq-eqb}
-use Rattle.turns.specs.Among.{IsIn}
-use Rattle.turns.specs.Script.{value_read}
-use Rattle.turns.specs.Seen.{AreReadWords}
-use Rattle.turns.specs.declared.reading.Reading.{Reading}
-use Rattle.attempts.specs.Marks.{AreMarked}
-use Rattle.attempts.specs.Points.{HaveOneValue}
+use Rattle.std.proofs.Common.{◌≡◌, ℕ, zero, suc, Bool, true, false, List, [], ◌∷◌, refl, sym, ◌∙◌, ap, inl, inr, ◌⊎◌, ◌==◌, Option, Some, None, find}
+use Rattle.std.proofs.Common.{if◌then◌else◌, option_map, take, eq-eqb}
+use Rattle.turns.specs.{Among.IsIn, Script.value_read, Seen.AreReadWords, declared.reading.Reading.Reading}
+use Rattle.attempts.specs.{Marks.AreMarked, Points.HaveOneValue}
 
 -- what is read among the first readings is read, if it is read there at all
-read_first : (n : ℕ) (readings : List (Reading ℕ)) (word : ℕ) → (value_read (take n readings) word ≡ None) ⊎ (value_read (take n readings) word ≡ value_read readings word)
+read_first : (n : ℕ) (readings : List (Reading ℕ)) (word : ℕ)
+    → (value_read (take n readings) word ≡ None) ⊎ (value_read (take n readings) word ≡ value_read readings word)
 unfolding value_read
 read_first zero readings word = inl refl
 read_first (suc n) [] word = inl refl
@@ -19,7 +15,9 @@ read_first (suc n) (reading ∷ readings) word = at (reading.word == word) (read
   value = option_map (λ (r : Reading ℕ). r.value)
 
   at : (b : Bool) → (value_read (take n readings) word ≡ None) ⊎ (value_read (take n readings) word ≡ value_read readings word)
-      → (value (if b then Some reading else find (λ (r : Reading ℕ). r.word == word) (take n readings)) ≡ None) ⊎ (value (if b then Some reading else find (λ (r : Reading ℕ). r.word == word) (take n readings)) ≡ value (if b then Some reading else find (λ (r : Reading ℕ). r.word == word) readings))
+      → (value (if b then Some reading else find (λ (r : Reading ℕ). r.word == word) (take n readings)) ≡ None)
+      ⊎ (value (if b then Some reading else find (λ (r : Reading ℕ). r.word == word) (take n readings))
+      ≡ value (if b then Some reading else find (λ (r : Reading ℕ). r.word == word) readings))
   at true later = inr refl
   at false later = later
 
@@ -31,7 +29,8 @@ read_of_first (other ∷ readings) reading among = at (other.word == reading.wor
   value : Option (Reading ℕ) → Option ℕ
   value = option_map (λ (r : Reading ℕ). r.value)
 
-  at : (b : Bool) → (other.word == reading.word) ≡ b → (IsIn reading readings → (found : ℕ) × (value_read readings reading.word ≡ Some found)) → (found : ℕ) × (value (if b then Some other else find (λ (r : Reading ℕ). r.word == reading.word) readings) ≡ Some found)
+  at : (b : Bool) → (other.word == reading.word) ≡ b → (IsIn reading readings → (found : ℕ) × (value_read readings reading.word ≡ Some found))
+      → (found : ℕ) × (value (if b then Some other else find (λ (r : Reading ℕ). r.word == reading.word) readings) ≡ Some found)
   at true e later = (other.value, refl)
   at false e later = elim among [
     | inl same ↦ let yes : (other.word == reading.word) ≡ true = eq-eqb other.word reading.word (sym (ap (λ (r : Reading ℕ). r.word) same)) in absurd cc

@@ -14,7 +14,7 @@ use crate::attempt::AttemptOf;
 use crate::next_step::next_effect;
 use crate::scripts::Scripts;
 use crate::seen::Seen;
-use crate::starting::{give_back, give_up};
+use crate::starting::{give_back, roll_back};
 use turns::{Answer, Phase, Reading, Wanted};
 
 /// Calls `Scripts::walk`, with its requirements gathered into one clause.
@@ -174,7 +174,7 @@ fn deny_request<S: Scripts<READINGS, HELD>, const READINGS: usize, const HELD: u
     if S::sharing(setting).asks() {
         attempt.deny(lock);
     } else {
-        give_up::<S, READINGS, HELD>(attempt);
+        roll_back::<S, READINGS, HELD>(attempt);
     }
 }
 

@@ -95,31 +95,31 @@ impl<
     }
 
     /// Like `new`, but overwrites an attempt at another job.
-    pub(crate) fn renew(&mut self, job: J, first: L, point: P)
+    pub(crate) fn begin_job(&mut self, job: J, first: L, point: P)
         ensures { self.new ≡ begun_at job first point }
     {
         self.job = job;
         self.count = 0;
-        self.begin_anew(first, point);
+        self.start_over(first, point);
     }
 
     /// Begins the same job anew, with nothing held. The count stays as it is, until `count_step` or
     /// `count_beginning` resets it.
-    pub(crate) fn begin_anew(&mut self, first: L, point: P)
+    pub(crate) fn start_over(&mut self, first: L, point: P)
         ensures { self.new
             ≡ record (begun_at self.old.job first point) { count = self.old.count } }
     {
         self.seen.clear_locks();
         self.phase = Phase::Requests(first);
         self.point = point;
-        self.forget();
+        self.clear_readings();
     }
 
     /// Drops all that was read and decided.
-    pub(crate) fn forget(&mut self)
+    pub(crate) fn clear_readings(&mut self)
         ensures { self.new ≡ record self.old { readings = []; decision = None; made = 0 } }
     {
-        self.seen.forget();
+        self.seen.clear_readings();
         self.decision = None;
         self.made = 0;
     }
@@ -135,7 +135,7 @@ impl<
             } }
     {
         self.phase = Phase::Withdraws(lock);
-        self.forget();
+        self.clear_readings();
     }
 
     /// Removes the lock seized first, if any is held.

@@ -16,7 +16,7 @@ use turns::lock_word::{asked_by, seized_by};
 use turns::{LockSharing, Wanted};
 
 /// Does nothing. Called for its contract: each word fits in 64 bits.
-fn are_words(_words: &[u64])
+pub(crate) fn are_words(_words: &[u64])
     ensures { AreWords _words.now }
 {}
 

@@ -42,11 +42,11 @@ pub fn begin_next<S: Scripts<READINGS, HELD>, const READINGS: usize, const HELD:
 {
     let lock = S::first(&job);
     let point = S::start(&job);
-    attempt.renew(job, lock, point);
+    attempt.begin_job(job, lock, point);
 }
 
 /// Begins the same job anew, from its first lock and its first resume point.
-fn begin_again<S: Scripts<READINGS, HELD>, const READINGS: usize, const HELD: usize>(
+fn start_over<S: Scripts<READINGS, HELD>, const READINGS: usize, const HELD: usize>(
     attempt: &mut AttemptOf<S, READINGS, HELD>,
 )
     ensures begins { (setting : S.Setting) → let O = system_of S.Lock.eq S.Scripts setting in
@@ -57,7 +57,7 @@ fn begin_again<S: Scripts<READINGS, HELD>, const READINGS: usize, const HELD: us
 {
     let lock = S::first(&attempt.job);
     let point = S::start(&attempt.job);
-    attempt.begin_anew(lock, point);
+    attempt.start_over(lock, point);
 }
 
 /// Frees the locks next, or begins anew at once if none is held.
@@ -71,7 +71,7 @@ pub(crate) fn give_back<S: Scripts<READINGS, HELD>, const READINGS: usize, const
     ensures count { attempt.new.count ≡ attempt.old.count }
 {
     if attempt.seen.holds_none() {
-        begin_again::<S, READINGS, HELD>(attempt);
+        start_over::<S, READINGS, HELD>(attempt);
     } else {
         attempt.phase = Phase::GivesBack;
     }
@@ -79,7 +79,7 @@ pub(crate) fn give_back<S: Scripts<READINGS, HELD>, const READINGS: usize, const
 
 /// Gives up an attempt that is before its turn and has no request pending: drops its readings and
 /// its decision, and gives its locks back.
-pub(crate) fn give_up<S: Scripts<READINGS, HELD>, const READINGS: usize, const HELD: usize>(
+pub(crate) fn roll_back<S: Scripts<READINGS, HELD>, const READINGS: usize, const HELD: usize>(
     attempt: &mut AttemptOf<S, READINGS, HELD>,
 )
     ensures frees { (setting : S.Setting) → let O = system_of S.Lock.eq S.Scripts setting in
@@ -88,7 +88,7 @@ pub(crate) fn give_up<S: Scripts<READINGS, HELD>, const READINGS: usize, const H
     ensures point { (setting : S.Setting) → ResumePointHolds S.Scripts setting attempt.new }
     ensures count { attempt.new.count ≡ attempt.old.count }
 {
-    attempt.forget();
+    attempt.clear_readings();
     give_back::<S, READINGS, HELD>(attempt);
 }
 
@@ -105,7 +105,7 @@ fn restart_uncounted<S: Scripts<READINGS, HELD>, const READINGS: usize, const HE
     let phase = attempt.phase;
     match phase {
         Phase::Requests(_) | Phase::Tests(_) | Phase::Turns => {
-            give_up::<S, READINGS, HELD>(attempt);
+            roll_back::<S, READINGS, HELD>(attempt);
         }
         Phase::Seizes(lock, _) => attempt.deny(lock),
         Phase::Withdraws(_) | Phase::GivesBack | Phase::Operates(_) => {}

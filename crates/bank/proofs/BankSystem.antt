@@ -1,32 +1,17 @@
 -- the bank is a system of jobs
-use Rattle.std.proofs.Common.{◌≡◌, ℕ, ◌+◌, ◌-◌, ◌/◌, ◌^◌, ◌<◌, ◌≤◌, zero, suc, Bool, true, false, List, [], ◌∷◌, ◌++◌, length, length-set, slice_index, slice_set, inl, inr, refl, sym, ◌∙◌, ap, subst, arith}
-use Rattle.std.specs.Prelude.{◌==◌, nat_le, if◌then◌else◌, Err, replicate}
-use Rattle.std.proofs.lemmas.Bool.{eqb-true, eqb-false, ltb-true, leb-true, and_parts}
-use Rattle.std.proofs.lemmas.List.{length-append, length-replicate}
-use Rattle.turns.specs.Among.{IsIn}
-use Rattle.turns.specs.Bounds.{AreBounded, AllEndsHave}
-use Rattle.turns.specs.Operations.{FitsWord, applied}
-use Rattle.turns.specs.Script.{◌>>=◌, AsksAtMost, run, first_wanted}
-use Rattle.turns.specs.Sharing.{IsSharing, IsUnused}
-use Rattle.turns.specs.Sharings.{sharing_of}
+use Rattle.std.proofs.Common.{◌≡◌, ℕ, ◌+◌, ◌-◌, ◌/◌, ◌^◌, ◌<◌, ◌≤◌, zero, suc, Bool, true, false, List, [], ◌∷◌, ◌++◌, length, length-set, slice_index}
+use Rattle.std.proofs.Common.{slice_set, inl, inr, refl, sym, ◌∙◌, ap, subst, arith, ◌==◌, nat_le, if◌then◌else◌, Err, replicate, eqb-true, ltb-true, leb-true}
+use Rattle.std.proofs.Common.{length-append}
+use Rattle.{std.proofs.lemmas.{Bool.{eqb-false, and_parts}, List.length-replicate}, turns.specs.{Among.IsIn, Bounds.{AreBounded, AllEndsHave}}}
+use Rattle.turns.specs.{Operations.{FitsWord, applied}, Script.{◌>>=◌, AsksAtMost, run, first_wanted}, Sharing.{IsSharing, IsUnused}, Sharings.sharing_of}
 use Rattle.turns.specs.System.{AreWords, DecidesAs, DecidesUnder, IsSystem, IsUnder, KeepsTo, MayMake, perform, perform_all}
-use Rattle.turns.specs.declared.operation.Operation.{Operation}
-use Rattle.turns.specs.declared.operation.Operation.TheVariants.{Add, Sub}
-use Rattle.turns.specs.declared.wanted.Wanted.TheVariants.{Seize}
-use Rattle.turns.proofs.OwnSystem.{added_is, decides_if, either_has, index_other, index_same, makes_more, makes_none, same_number, subtracted_is, under_its_lock, zero_at, zeros_below}
-use Rattle.turns.specs.declared.lock_sharing.LockSharing.{LockSharing}
-use Rattle.turns.specs.declared.lock_sharing.LockSharing.TheVariants.{Preferring, Plain}
-use Rattle.turns.proofs.Plain.{plain_is}
-use Rattle.turns.proofs.Preferring.{preferring_is, zero_unused}
-use Rattle.bank.specs.Bank.{Balances, with_balance, credited, debited, fits, may_move, done_if, whole}
+use Rattle.turns.specs.declared.{operation.Operation.{Operation, TheVariants.{Add, Sub}}, wanted.Wanted.TheVariants.Seize, lock_sharing.LockSharing.LockSharing}
+use Rattle.turns.{specs.declared.lock_sharing.LockSharing.TheVariants.{Preferring, Plain}, proofs.OwnSystem.{added_is, decides_if, either_has, index_other}}
+use Rattle.turns.proofs.{OwnSystem.{index_same, makes_more, makes_none, same_number, subtracted_is, under_its_lock, zero_at, zeros_below}, Plain.plain_is}
+use Rattle.{turns.proofs.Preferring.{preferring_is, zero_unused}, bank.specs.Bank.{Balances, with_balance, credited, debited, fits, may_move, done_if, whole}}
 use Rattle.bank.specs.System.{Effect, Shows, effects_of, or_refuse, balance_of, script, first_account, IsJob, accounts, opening_words, bank}
-use Rattle.bank.specs.declared.decision.Decision.{Decision}
-use Rattle.bank.specs.declared.decision.Decision.TheVariants.{Replies, Changes, Moves}
-use Rattle.bank.specs.declared.job.Job.{Job}
-use Rattle.bank.specs.declared.job.Job.TheVariants.{Deposit, Withdraw, Transfer, Balance}
-use Rattle.bank.specs.declared.job.Reply.TheVariants.{Done, Refused, Has}
-use Rattle.bank.specs.declared.opening.Opening.{Opening}
-use Rattle.bank.specs.declared.opening.TheConstants.{SHARD_SIZE}
+use Rattle.bank.specs.declared.{decision.Decision.{Decision, TheVariants.{Replies, Changes, Moves}}, job.Job.{Job, TheVariants.{Deposit, Withdraw, Transfer}}}
+use Rattle.bank.specs.declared.{job.{Job.TheVariants.Balance, Reply.TheVariants.{Done, Refused, Has}}, opening.{Opening.Opening, TheConstants.SHARD_SIZE}}
 
 -- each way to share a lock is a sharing, in which nobody holds or requests a lock whose word is 0
 sharing_is : (sharing : LockSharing) → IsSharing (sharing_of sharing)
@@ -58,23 +43,45 @@ module _ (opening : Opening) where
   word_under : (held : List ℕ) (account : ℕ) → account < accounts opening → IsIn (account / SHARD_SIZE) held → IsUnder (bank opening) held account
   word_under held account below own = under_its_lock (bank opening) held (account / SHARD_SIZE) account (refl, below) own
 
-  may_change : (held : List ℕ) (account : ℕ) (operation : Operation) (more : List Effect) → account < accounts opening → IsIn (account / SHARD_SIZE) held → FitsWord operation → MayMake (bank opening) held more → MayMake (bank opening) held ((account, operation) ∷ more)
-  may_change held account operation more below own fits may = makes_more (bank opening) held (account, operation) more (word_under held account below own) fits may
+  may_change : (held : List ℕ) (account : ℕ) (operation : Operation) (more : List Effect) → account < accounts opening → IsIn (account / SHARD_SIZE) held
+      → FitsWord operation → MayMake (bank opening) held more → MayMake (bank opening) held ((account, operation) ∷ more)
+  may_change held account operation more below own fits may =
+      makes_more (bank opening) held (account, operation) more (word_under held account below own) fits may
 
-  may_if : (held : List ℕ) (t : Bool) (decision : Decision) → MayMake (bank opening) held (effects_of decision) → MayMake (bank opening) held (effects_of (or_refuse t decision))
-  may_if held t decision may = either_has (λ d. MayMake (bank opening) held (effects_of d)) t decision (Replies Refused) (λ is. may) (λ is. makes_none (bank opening) held)
+  may_if : (held : List ℕ) (t : Bool) (decision : Decision) → MayMake (bank opening) held (effects_of decision)
+      → MayMake (bank opening) held (effects_of (or_refuse t decision))
+  may_if held t decision may =
+      either_has (λ d. MayMake (bank opening) held (effects_of d)) t decision (Replies Refused) (λ is. may) (λ is. makes_none (bank opening) held)
 
   keeps : (job : Job) → IsJob opening job → KeepsTo (bank opening) (DecidesUnder (bank opening)) [] (script job)
   unfolding KeepsTo balance_of ◌>>=◌
-  keeps (Deposit a x) low = let held : List ℕ = a / SHARD_SIZE ∷ [] in (omega arith, (word_under held a low (inl refl), λ has below. may_if held (fits (has + x)) (Changes a (Add x)) (may_change held a (Add x) [] low (inl refl) tt (makes_none (bank opening) held))))
-  keeps (Withdraw a x) low = let held : List ℕ = a / SHARD_SIZE ∷ [] in (omega arith, (word_under held a low (inl refl), λ has below. may_if held (nat_le x has) (Changes a (Sub x)) (may_change held a (Sub x) [] low (inl refl) tt (makes_none (bank opening) held))))
+  keeps (Deposit a x) low = let held : List ℕ = a / SHARD_SIZE ∷ [] in (
+    omega arith,
+    (
+      word_under held a low (inl refl),
+      λ has below. may_if held (fits (has + x)) (Changes a (Add x)) (may_change held a (Add x) [] low (inl refl) tt (makes_none (bank opening) held)),
+    ),
+  )
+  keeps (Withdraw a x) low = let held : List ℕ = a / SHARD_SIZE ∷ [] in (
+    omega arith,
+    (
+      word_under held a low (inl refl),
+      λ has below. may_if held (nat_le x has) (Changes a (Sub x)) (may_change held a (Sub x) [] low (inl refl) tt (makes_none (bank opening) held)),
+    ),
+  )
   keeps (Transfer a b x) low =
       let one : List ℕ = a / SHARD_SIZE ∷ [] in
       let held : List ℕ = a / SHARD_SIZE ∷ b / SHARD_SIZE ∷ [] in
       let put = may_change held b (Add x) [] low.1 (inr (inl refl)) tt (makes_none (bank opening) held) in
-      let both = may_change held a (Sub x) ((b, Add x) ∷ []) low.0 (inl refl) tt put in
-      (omega (arith, low.0), (word_under one a low.0 (inl refl), λ left below. (omega (arith, low.1), (word_under held b low.1 (inr (inl refl)), λ has below. may_if held (may_move left has x) (Moves a b x) both))))
-  keeps (Balance a) low = let held : List ℕ = a / SHARD_SIZE ∷ [] in (omega arith, (word_under held a low (inl refl), λ has below. makes_none (bank opening) held))
+      let both = may_change held a (Sub x) ((b, Add x) ∷ []) low.0 (inl refl) tt put in (
+        omega (arith, low.0),
+        (
+          word_under one a low.0 (inl refl),
+          λ left below. (omega (arith, low.1), (word_under held b low.1 (inr (inl refl)), λ has below. may_if held (may_move left has x) (Moves a b x) both)),
+        ),
+      )
+  keeps (Balance a) low = let held : List ℕ = a / SHARD_SIZE ∷ [] in
+      (omega arith, (word_under held a low (inl refl), λ has below. makes_none (bank opening) held))
 
   firsts : (job : Job) → first_wanted (script job) ≡ Err (Seize (first_account job / SHARD_SIZE))
   unfolding first_wanted balance_of ◌>>=◌
@@ -91,17 +98,23 @@ module _ (opening : Opening) where
       at a below true e = sym (ap (slice_index (slice_set words account balance)) (eqb-true a account e) ∙ index_same words account balance (omega arith))
       at a below false e = shows.each a below ∙ sym (index_other words account a balance (eqb-false a account e))
 
-    shows_changed : (account balance : ℕ) (operation : Operation) → account < accounts opening → applied operation (has account) ≡ balance → Shows opening (perform (bank opening) words (account, operation)) (with_balance has account balance)
+    shows_changed : (account balance : ℕ) (operation : Operation) → account < accounts opening → applied operation (has account) ≡ balance
+        → Shows opening (perform (bank opening) words (account, operation)) (with_balance has account balance)
     shows_changed account balance operation low is =
         subst (λ (v : ℕ). Shows opening (slice_set words account (applied operation v)) (with_balance has account balance)) (shows.each account low)
         (subst (λ (v : ℕ). Shows opening (slice_set words account v) (with_balance has account balance)) (sym is) (shows_set account balance low))
 
     -- a job is refused, or done as it is whole
-    done_or_refused : (t : Bool) (after : Balances) (decision : Decision) → (t ≡ true → DecidesAs (bank opening) words (record { state = after; reply = Done }) decision) → DecidesAs (bank opening) words (done_if t has after) (or_refuse t decision)
+    done_or_refused : (t : Bool) (after : Balances) (decision : Decision)
+        → (t ≡ true → DecidesAs (bank opening) words (record { state = after; reply = Done }) decision)
+        → DecidesAs (bank opening) words (done_if t has after) (or_refuse t decision)
     unfolding perform_all
-    done_or_refused t after decision doing = decides_if (bank opening) words t (record { state = after; reply = Done }) (record { state = has; reply = Refused }) decision (Replies Refused) doing (λ is. record { reply = refl; shows = shows; due = tt })
+    done_or_refused t after decision doing =
+        decides_if (bank opening) words t (record { state = after; reply = Done }) (record { state = has; reply = Refused }) decision (Replies Refused) doing
+        (λ is. record { reply = refl; shows = shows; due = tt })
 
-  module _ (words : List ℕ) (has : Balances) (long : length words ≡ accounts opening + (opening.shards + 1)) (are : AreWords words) (shows : Shows opening words has) where
+  module _ (words : List ℕ) (has : Balances) (long : length words ≡ accounts opening + (opening.shards + 1)) (are : AreWords words)
+      (shows : Shows opening words has) where
     -- balances fit words
     small : (a : ℕ) → a < accounts opening → has a < 2 ^ 64
     small a low = omega (arith, shows.each a low, are a)
@@ -109,31 +122,46 @@ module _ (opening : Opening) where
     debits_as : (a x : ℕ) → a < accounts opening → x ≤ has a → Shows opening (perform (bank opening) words (a, Sub x)) (debited has a x)
     debits_as a x low enough = shows_changed words has long shows a (has a - x) (Sub x) low (subtracted_is (has a) x (small a low) enough)
 
-    moves_as : (a b x : ℕ) → a < accounts opening → b < accounts opening → x ≤ has a → has b + x < 2 ^ 64 → DecidesAs (bank opening) words (record { state = credited (debited has a x) b x; reply = Done }) (Moves a b x)
+    moves_as : (a b x : ℕ) → a < accounts opening → b < accounts opening → x ≤ has a → has b + x < 2 ^ 64
+        → DecidesAs (bank opening) words (record { state = credited (debited has a x) b x; reply = Done }) (Moves a b x)
     unfolding perform_all
-    moves_as a b x low high enough room = record { reply = refl; shows = shows_changed after (debited has a x) (length-set words a now ∙ long) (debits_as a x low enough) b (debited has a x b + x) (Add x) high (added_is (debited has a x b) x more); due = (tt, (tt, tt)) } where
-      now : ℕ
-      now = applied (Sub x) (slice_index words a)
+    moves_as a b x low high enough room =
+        record {
+          reply = refl;
+          shows =
+              shows_changed after (debited has a x) (length-set words a now ∙ long) (debits_as a x low enough) b (debited has a x b + x) (Add x) high
+              (added_is (debited has a x b) x more);
+          due = (tt, (tt, tt));
+        } where
+          now : ℕ
+          now = applied (Sub x) (slice_index words a)
 
-      after : List ℕ
-      after = slice_set words a now
+          after : List ℕ
+          after = slice_set words a now
 
-      more : debited has a x b + x < 2 ^ 64
-      more = at (b == a) refl where
-        at : (t : Bool) → (b == a) ≡ t → (if t then has a - x else has b) + x < 2 ^ 64
-        at true e = let same : has b ≡ has a = ap has (eqb-true b a e) in omega arith
-        at false e = room
+          more : debited has a x b + x < 2 ^ 64
+          more = at (b == a) refl where
+            at : (t : Bool) → (b == a) ≡ t → (if t then has a - x else has b) + x < 2 ^ 64
+            at true e = let same : has b ≡ has a = ap has (eqb-true b a e) in omega arith
+            at false e = room
 
     decides : (job : Job) → IsJob opening job → DecidesAs (bank opening) words (whole has job) (run words (script job))
     unfolding run perform_all balance_of ◌>>=◌
-    decides (Deposit a x) low = subst (λ (n : ℕ). DecidesAs (bank opening) words (whole has (Deposit a x)) (or_refuse (fits (n + x)) (Changes a (Add x)))) (shows.each a low)
+    decides (Deposit a x) low =
+        subst (λ (n : ℕ). DecidesAs (bank opening) words (whole has (Deposit a x)) (or_refuse (fits (n + x)) (Changes a (Add x)))) (shows.each a low)
         (done_or_refused words has long shows (fits (has a + x)) (credited has a x) (Changes a (Add x)) (λ t.
-        record { reply = refl; shows = shows_changed words has long shows a (has a + x) (Add x) low (added_is (has a) x (ltb-true (has a + x) (2 ^ 64) t)); due = (tt, tt) }))
-    decides (Withdraw a x) low = subst (λ (n : ℕ). DecidesAs (bank opening) words (whole has (Withdraw a x)) (or_refuse (nat_le x n) (Changes a (Sub x)))) (shows.each a low)
+        record {
+          reply = refl;
+          shows = shows_changed words has long shows a (has a + x) (Add x) low (added_is (has a) x (ltb-true (has a + x) (2 ^ 64) t));
+          due = (tt, tt);
+        }))
+    decides (Withdraw a x) low =
+        subst (λ (n : ℕ). DecidesAs (bank opening) words (whole has (Withdraw a x)) (or_refuse (nat_le x n) (Changes a (Sub x)))) (shows.each a low)
         (done_or_refused words has long shows (nat_le x (has a)) (debited has a x) (Changes a (Sub x)) (λ t.
         record { reply = refl; shows = debits_as a x low (leb-true x (has a) t); due = (tt, tt) }))
     decides (Transfer a b x) low =
-        subst (λ (n : ℕ). DecidesAs (bank opening) words (whole has (Transfer a b x)) (or_refuse (may_move n (slice_index words b) x) (Moves a b x))) (shows.each a low.0)
+        subst (λ (n : ℕ). DecidesAs (bank opening) words (whole has (Transfer a b x)) (or_refuse (may_move n (slice_index words b) x) (Moves a b x)))
+        (shows.each a low.0)
         (subst (λ (n : ℕ). DecidesAs (bank opening) words (whole has (Transfer a b x)) (or_refuse (may_move (has a) n x) (Moves a b x))) (shows.each b low.1)
         (done_or_refused words has long shows (may_move (has a) (has b) x) (credited (debited has a x) b x) (Moves a b x) (λ t.
         let both = and_parts (nat_le x (has a)) (fits (has b + x)) t in
@@ -147,7 +175,8 @@ module _ (opening : Opening) where
       omega (arith, length-append balances zeros, length-replicate (accounts opening) opening.balance, length-replicate {A = ℕ} (opening.shards + 1) 0)
 
   opens_zero : (n : ℕ) → slice_index (opening_words opening) (accounts opening + n) ≡ 0
-  opens_zero n = past_opening (accounts opening) opening.balance (accounts opening + n) n (replicate (opening.shards + 1) 0) refl ∙ zero_at (opening.shards + 1) n
+  opens_zero n =
+      past_opening (accounts opening) opening.balance (accounts opening + n) n (replicate (opening.shards + 1) 0) refl ∙ zero_at (opening.shards + 1) n
 
   opens_unused : (shard : ℕ) → IsUnused (sharing_of opening.sharing) (slice_index (opening_words opening) (accounts opening + shard))
   opens_unused shard = subst (IsUnused (sharing_of opening.sharing)) (sym (opens_zero shard)) (zero_is_unused opening.sharing)

@@ -3,7 +3,7 @@ use Rattle.std.proofs.Common.{◌≡◌, ℕ, suc, ◌+◌, ◌*◌, arith}
 use Rattle.bank.specs.System.{bank_over}
 use Rattle.bank.specs.declared.opening.Opening.{Opening}
 use Rattle.bank.specs.declared.opening.TheConstants.{SHARD_SIZE}
-use Rattle.desks.specs.Places.{ArePlaces}
+use Rattle.turns.specs.Places.{ArePlaces}
 use Rattle.desk_attempts.specs.GroupPlaces.{places_of_size}
 use Rattle.desk_attempts.specs.Groups.{places_of}
 use Rattle.desk_attempts.specs.declared.on_groups.Groups.{Groups}

@@ -5,9 +5,9 @@ ghost use Rattle.std.specs.Prelude.{◌≡◌, ◌≤◌, ◌<◌, ◌+◌, ◌^
 ghost use Rattle.bank_desks.specs.Shards.{shards_of};
 
 use crate::walks::{balance_of, fits, lock_word, or_refuse};
-use attempts::{Scripts, Seen};
+use attempts::{OnWords, Scripts, Seen};
 use bank::{Decision, Effect, Job, Opening, Reply, SHARD_SIZE};
-use desk_attempts::{Attempts, Groups, OnWords};
+use desk_attempts::{Attempts, Groups, InRoom};
 use std::alloc::{AllocError, Global};
 use std::ops::Range;
 use turns::{Clock, LockSharing, Operation, Wanted};
@@ -17,7 +17,7 @@ pub struct BankScripts;
 
 /// The jobs of the bank as desks do them: each tests at most two words and seizes at most two
 /// locks.
-pub type BankJobs = Attempts<BankScripts, 2, 2>;
+pub type BankJobs = Attempts<BankScripts, BankRoom, 2, 2>;
 
 impl Scripts<2, 2> for BankScripts {
     ghost use Rattle.attempts.specs.SystemWith.{without_decisions};
@@ -118,6 +118,35 @@ fn shards(opening: &Opening) -> Groups
 }
 
 impl OnWords<2, 2> for BankScripts {
+    fn size(opening: &Opening) -> usize {
+        opening.account_count() + opening.shards as usize + 1
+    }
+
+    fn lock_word(opening: &Opening, shard: u32) -> usize {
+        lock_word(opening, shard)
+    }
+
+    fn turn_word(opening: &Opening) -> usize {
+        opening.account_count() + opening.shards as usize
+    }
+
+    fn clock(opening: &Opening) -> Clock {
+        opening.clock
+    }
+
+    fn effect_word(_opening: &Opening, effect: Effect) -> usize {
+        effect.0 as usize
+    }
+
+    fn effect_operation(_opening: &Opening, effect: Effect) -> Operation {
+        effect.1
+    }
+}
+
+/// The room of a bank: each shard stands apart from the others.
+pub struct BankRoom;
+
+impl InRoom<BankRoom, 2, 2> for BankScripts {
     ghost use Rattle.bank.proofs.BankSystem.{bank_bounded, bank_system};
     ghost use Rattle.bank_desks.specs.Shards.{shards_have_places, shards_of};
     ghost use Rattle.desk_attempts.specs.Groups.{places_of};
@@ -132,18 +161,6 @@ impl OnWords<2, 2> for BankScripts {
         *opening
     }
 
-    fn effect_word(_opening: &Opening, effect: Effect) -> usize {
-        effect.0 as usize
-    }
-
-    fn effect_operation(_opening: &Opening, effect: Effect) -> Operation {
-        effect.1
-    }
-
-    fn size(opening: &Opening) -> usize {
-        opening.account_count() + opening.shards as usize + 1
-    }
-
     fn place(opening: &Opening, word: usize) -> usize {
         shards(opening).place(word)
     }
@@ -156,18 +173,6 @@ impl OnWords<2, 2> for BankScripts {
         let mut words = vec![in alloc; opening.balance; opening.account_count()]?;
         words.resize(Self::size(opening), 0)?;
         Ok(words)
-    }
-
-    fn turn_word(opening: &Opening) -> usize {
-        opening.account_count() + opening.shards as usize
-    }
-
-    fn clock(opening: &Opening) -> Clock {
-        opening.clock
-    }
-
-    fn lock_word(opening: &Opening, shard: u32) -> usize {
-        lock_word(opening, shard)
     }
 
     fn words_under(opening: &Opening, shard: u32) -> Range<usize> {

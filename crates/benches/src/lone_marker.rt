@@ -9,7 +9,7 @@ use std::io;
 use std::rt::Clock;
 use std::time::Instant;
 use xbar_equip::{Dialled, Len, WORD_COUNT};
-use xbar_jobs::{Program, Step};
+use xbar_jobs::Program;
 use xbar_office::Job;
 use xbar_plan::Plan;
 
@@ -44,12 +44,10 @@ pub fn serve(plan: &Plan, words: &mut [u64], job: Job, pace: Pace) -> u32
         if let Pace::Runs = pace {
             program.run(plan, 0, words, STEPS);
         }
-        let step = program.next();
-        if step == Step::Finished {
+        if program.is_done() {
             break;
         }
-        let answer = step.make(0, words);
-        program.take(plan, answer);
+        let _answer = program.step(plan, 0, words);
     }
     program.count()
 }

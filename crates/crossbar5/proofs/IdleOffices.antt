@@ -1,24 +1,11 @@
 -- an office whose markers are all idle has settled: settling it changes nothing
-use Rattle.std.proofs.Common.{◌≡◌, ◌⊎◌, inl, inr, ℕ, true, true≢false, List, refl, sym, ◌∙◌, ap, subst}
-use Rattle.std.specs.Prelude.{None, slice_set}
-use Rattle.turns.specs.Attempt.{act, act_in, restarted, restarted_in}
-use Rattle.turns.specs.Runs.{is_finished}
-use Rattle.turns.specs.World.{Does}
-use Rattle.turns.specs.declared.phase.Phase.TheVariants.{Requests, Seizes, Tests, Turns, Withdraws, GivesBack, Operates}
-use Rattle.xbar_plan.specs.Tables.{Tables}
-use Rattle.xbar_jobs.specs.Attempt.{Attempt, Phase}
-use Rattle.xbar_jobs.specs.Office.{office}
-use Rattle.xbar_moves.specs.Exchange.{Exchange, Marker, is_idle}
-use Rattle.xbar_moves.specs.Holding.{IsAt}
-use Rattle.xbar_moves.specs.Moves.{after_step, with_work}
-use Rattle.xbar_moves.specs.Settling.{settled}
-use Rattle.xbar_moves.specs.declared.kind.Kind.{Kind}
-use Rattle.xbar_moves.proofs.Keeping.{KeepsRestarts, KeepsSteps, settled_keeps}
-use Rattle.xbar_moves.proofs.Markers.{marker_same}
-use Rattle.xbar_moves.proofs.StepCases.{IsMade, step_cases}
-use Rattle.xbar_traffic.specs.declared.row.Row.{Row}
-use Rattle.crossbar5.specs.Look.{AreIdle}
-use Rattle.crossbar5.specs.Run.{Leaves, outcome, reached, settling}
+use Rattle.std.proofs.Common.{◌≡◌, ◌⊎◌, inl, inr, ℕ, true, true≢false, List, refl, sym, ◌∙◌, ap, subst, None, slice_set}
+use Rattle.turns.specs.{Attempt.{act, act_in, restarted, restarted_in}, Runs.is_finished, World.Does}
+use Rattle.{turns.specs.declared.phase.Phase.TheVariants.{Requests, Seizes, Tests, Turns, Withdraws, GivesBack, Operates}, xbar_plan.specs.Tables.Tables}
+use Rattle.xbar_jobs.specs.{Attempt.{Attempt, Phase}, Office.office}
+use Rattle.xbar_moves.specs.{Exchange.{Exchange, Marker, is_idle}, Holding.IsAt, Moves.{after_step, with_work}, Settling.settled, declared.kind.Kind.Kind}
+use Rattle.xbar_moves.proofs.{Keeping.{KeepsRestarts, KeepsSteps, settled_keeps}, Markers.marker_same, StepCases.{IsMade, step_cases}}
+use Rattle.{xbar_traffic.specs.declared.row.Row.Row, crossbar5.specs.{Look.AreIdle, Run.{Leaves, outcome, reached, settling}}}
 
 -- a job of which nothing is left stays as it is where it is restarted
 stays : (plan : Tables) (phase : Phase) (a : Attempt) → is_finished (act_in phase a) ≡ true → restarted_in (office plan) phase a ≡ a
@@ -62,5 +49,6 @@ module _ (plan : Tables) (e : Exchange) (idle : AreIdle e) where
   idle_settled = settled_keeps plan Same steps_same restarts_same e refl
 
 -- so a replay leaves the office that its rows lead to
-pub idle_replayed : (plan : Tables) (kinds : List Kind) (rows : List Row) (e : Exchange) → reached plan kinds rows None ≡ Leaves e → AreIdle e → outcome plan kinds rows None ≡ Leaves e
+pub idle_replayed : (plan : Tables) (kinds : List Kind) (rows : List Row) (e : Exchange) → reached plan kinds rows None ≡ Leaves e → AreIdle e
+    → outcome plan kinds rows None ≡ Leaves e
 idle_replayed plan kinds rows e came idle = ap (settling plan) came ∙ ap Leaves (idle_settled plan e idle)

@@ -1,18 +1,15 @@
 -- a text is read letter by letter as kinds
-use Rattle.std.proofs.Common.{◌≡◌, ℕ, zero, suc, ◌+◌, ◌<◌, ◌≤◌, true, false, EachIndex, IsTrue, List, [], ◌∷◌, ◌++◌, length, map, slice_index, take, get_or, refl, sym, ◌∙◌, ap, subst, arith}
-use Rattle.std.specs.Prelude.{◌↔◌, IfSome, IsSome, None, Option, Some}
-use mathlib.Core.Bool.{true≢false}
-use Rattle.std.proofs.lemmas.List.{length-map, map_push, take_all, take_more}
-use Rattle.xbar_moves.specs.Kinds.{IsMarkerCount}
-use Rattle.xbar_moves.specs.declared.kind.Kind.{Kind}
-use Rattle.xbar_moves.specs.declared.kind.Kind.TheVariants.{Dial, Completing, Combined}
-use Rattle.crossbar5.specs.Kinds.{Names, NamesNone, is_letter, letter_of}
+use Rattle.std.proofs.Common.{◌≡◌, ℕ, zero, suc, ◌+◌, ◌<◌, ◌≤◌, false, EachIndex, IsTrue, List, [], ◌∷◌, ◌++◌, length, map, slice_index, take, get_or, refl}
+use Rattle.std.proofs.Common.{sym, ◌∙◌, ap, subst, arith, ◌↔◌, IfSome, IsSome, None, Option, Some, true≢false, take_all}
+use Rattle.{std.proofs.lemmas.List.{length-map, map_push, take_more}, xbar_moves.specs.{Kinds.IsMarkerCount, declared.kind.Kind.Kind}}
+use Rattle.{xbar_moves.specs.declared.kind.Kind.TheVariants.{Dial, Completing, Combined}, crossbar5.specs.Kinds.{Names, NamesNone, is_letter, letter_of}}
 
 -- the kinds so far are those of the letters so far
 abbrev pub AreRead : List ℕ → List Kind → ℕ → Type 0
 AreRead text kinds index = map letter_of kinds ≡ take index text
 
-pub one_read : (text : List ℕ) (kinds next : List Kind) (kind : Kind) (index : ℕ) → AreRead text kinds index → index < length text → get_or text index 0 ≡ letter_of kind → next ≡ kinds ++ kind ∷ [] → AreRead text next (index + 1)
+pub one_read : (text : List ℕ) (kinds next : List Kind) (kind : Kind) (index : ℕ) → AreRead text kinds index → index < length text
+    → get_or text index 0 ≡ letter_of kind → next ≡ kinds ++ kind ∷ [] → AreRead text next (index + 1)
 one_read text kinds next kind index so_far within letter is =
     ap (map letter_of) is ∙ map_push letter_of kinds kind ∙ ap (λ (letters : List ℕ). letters ++ letter_of kind ∷ []) so_far
     ∙ ap (λ (n : ℕ). take index text ++ n ∷ []) (sym letter) ∙ sym (take_more text index 0 within)

@@ -1,23 +1,11 @@
 -- the events of rows are a list of objects, each after a comma
-use Rattle.std.proofs.Common.{◌≡◌, ◌≢◌, drop, ℕ, List, [], ◌∷◌, ◌++◌, inl, inr, refl, sym, ◌∙◌, ap, subst}
-use Rattle.std.specs.Prelude.{flat_map, replicate}
-use Rattle.std.proofs.lemmas.Grind.{flat_map-append}
-use Rattle.xbar_plan.specs.Tables.{Tables}
-use Rattle.xbar_moves.specs.Exchange.{Exchange, OfPlan}
-use Rattle.xbar_traffic.specs.declared.row.Row.{Row}
+use Rattle.std.proofs.Common.{◌≡◌, ◌≢◌, drop, ℕ, List, [], ◌∷◌, ◌++◌, inl, inr, refl, sym, ◌∙◌, ap, subst, flat_map, replicate}
+use Rattle.{std.proofs.lemmas.Grind.flat_map-append, xbar_plan.specs.Tables.Tables, xbar_moves.specs.Exchange.{Exchange, OfPlan}}
+use Rattle.{xbar_traffic.specs.declared.row.Row.Row, xbar_walk.specs.{Items.{Item, assignment_item, item_lines, step_item, walk_text_of}, Observers.ChangesAs}}
+use Rattle.xbar_walk.specs.{Runs.{Made, made_by, made_items}, Stories.IsStory, Walks.Walk, declared.detail.Detail.{Detail, TheVariants.JsonList}}
+use Rattle.xbar_walk.{specs.declared.story.Story.Story, proofs.{Joining.each_alone, TellingRuns.{run_detail, run_items, steps_are_run}}}
+use Rattle.crossbar5.specs.{Look.BeginsWithComma, Walk.{begun_at, walk_after_row, walk_after_rows}}
 use Rattle.xbar_traffic.specs.declared.row.Row.TheVariants as row
-use Rattle.xbar_walk.specs.Items.{Item, assignment_item, item_lines, step_item, walk_text_of}
-use Rattle.xbar_walk.specs.Observers.{ChangesAs}
-use Rattle.xbar_walk.specs.Runs.{Made, made_by, made_items}
-use Rattle.xbar_walk.specs.Stories.{IsStory}
-use Rattle.xbar_walk.specs.Walks.{Walk}
-use Rattle.xbar_walk.specs.declared.detail.Detail.{Detail}
-use Rattle.xbar_walk.specs.declared.detail.Detail.TheVariants.{JsonList}
-use Rattle.xbar_walk.specs.declared.story.Story.{Story}
-use Rattle.xbar_walk.proofs.Joining.{each_alone}
-use Rattle.xbar_walk.proofs.TellingRuns.{run_detail, run_items, steps_are_run}
-use Rattle.crossbar5.specs.Look.{BeginsWithComma}
-use Rattle.crossbar5.specs.Walk.{begun_at, walk_after_row, walk_after_rows}
 
 made_begin : (number : ℕ) (made : List Made) → BeginsWithComma (flat_map item_lines (made_items JsonList number made))
 unfolding made_items step_item item_lines
@@ -33,7 +21,8 @@ either_begins : (one other : List ℕ) → BeginsWithComma one → BeginsWithCom
 either_begins one other (inl none) begins = subst (λ (lines : List ℕ). BeginsWithComma (lines ++ other)) (sym none) begins
 either_begins one other (inr (rest, is)) begins = inr (rest ++ other, ap (λ (lines : List ℕ). lines ++ other) is)
 
-both_begin : (items more : List Item) → BeginsWithComma (flat_map item_lines items) → BeginsWithComma (flat_map item_lines more) → BeginsWithComma (flat_map item_lines (items ++ more))
+both_begin : (items more : List Item) → BeginsWithComma (flat_map item_lines items) → BeginsWithComma (flat_map item_lines more)
+    → BeginsWithComma (flat_map item_lines (items ++ more))
 both_begin items more one other =
     subst BeginsWithComma (sym (flat_map-append item_lines items more)) (either_begins (flat_map item_lines items) (flat_map item_lines more) one other)
 
@@ -51,7 +40,8 @@ row_list (row.Steps marker count) w list =
     record {
       detail = ap (λ (x : Walk). x.detail) (steps_are_run marker count w) ∙ run_detail ks w ∙ list.detail;
       begins =
-          subst (λ (items : List Item). BeginsWithComma (flat_map item_lines items)) (sym (ap (λ (x : Walk). x.items) (steps_are_run marker count w) ∙ run_items ks w))
+          subst (λ (items : List Item). BeginsWithComma (flat_map item_lines items))
+          (sym (ap (λ (x : Walk). x.items) (steps_are_run marker count w) ∙ run_items ks w))
           (both_begin w.items (made_items w.detail w.number made) list.begins
           (subst (λ (d : Detail). BeginsWithComma (flat_map item_lines (made_items d w.number made))) (sym list.detail) (made_begin w.number made)));
     }
@@ -73,8 +63,10 @@ module _ (plan : Tables) (e : Exchange) (rows : List Row) where
   events_begin = subst BeginsWithComma (sym (each_alone JsonList told.items refl)) list.begins
 
   -- they are the text of a story that began in this office
-  pub events_text : (office : OfPlan) (story later : Story) (text : List ℕ) → IsStory story JsonList 0 [] → ChangesAs IsStory (walk_after_rows rows) (record { plan = plan; exchange = e }) story office later
-      → ((detail : Detail) (number : ℕ) (items : List Item) → IsStory later detail number items → text ≡ walk_text_of detail items) → text ≡ walk_text_of JsonList told.items
+  pub events_text : (office : OfPlan) (story later : Story) (text : List ℕ) → IsStory story JsonList 0 []
+      → ChangesAs IsStory (walk_after_rows rows) (record { plan = plan; exchange = e }) story office later
+      → ((detail : Detail) (number : ℕ) (items : List Item) → IsStory later detail number items → text ≡ walk_text_of detail items)
+      → text ≡ walk_text_of JsonList told.items
   events_text office story later text begun changes ends =
       let agrees = changes (begun_at JsonList plan e) (record { office_is = refl; described = begun }) in
       ends told.detail told.number told.items agrees.described ∙ ap (λ (detail : Detail). walk_text_of detail told.items) list.detail

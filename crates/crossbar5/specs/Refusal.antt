@@ -1,6 +1,7 @@
 -- Diagnostics, and the refusals that they explain.
 use Rattle.std.specs.Prelude.{◌≡◌, ◌++◌, ℕ, Bool, true, false, List, Option, None, Some, Result, Ok, Err, codes, decimal}
 use Rattle.std.specs.declared.alloc.AllocError.{AllocError}
+use Rattle.xbar_plan_text.specs.Refusal.{fault_of}
 use Rattle.xbar_traffic.specs.Fault.{fault_line}
 use Rattle.crossbar5.specs.PlanRefusal.{plan_fault_line}
 use Rattle.crossbar5.specs.declared.diagnostic.Diagnostic.{Diagnostic}
@@ -14,7 +15,7 @@ report_fault_line line = codes "FAULT,U1," ++ (decimal line ++ codes "\n")
 
 -- the line that reports the fault of a diagnostic
 abbrev pub line_of : Diagnostic → List ℕ
-line_of (Plan diagnostic) = plan_fault_line diagnostic.fault
+line_of (Plan diagnostic) = plan_fault_line (fault_of diagnostic.refusal)
 line_of (Traffic diagnostic) = fault_line diagnostic.fault
 line_of (Report diagnostic) = report_fault_line diagnostic.line
 

@@ -3,8 +3,9 @@
 ghost use Rattle.std.specs.Prelude.{◌≡◌, ◌≢◌, Err, IfErr, IfOk, OnOk};
 ghost use Rattle.std.specs.Io.KnownBytes.{IsAtEnd};
 ghost use Rattle.counted_io.specs.Counts.{HasFailed, ReadsUsedUp};
+ghost use Rattle.xbar_plan_text.specs.Refusal.{fault_of};
 ghost use Rattle.crossbar5.specs.Input.{IsInputOf, ShowsPlaceIfRefused};
-ghost use Rattle.crossbar5.specs.PlanPlaces.{ShowsPlaceIn};
+ghost use Rattle.crossbar5.specs.PlanPlaces.{IsOnRefusal};
 ghost use Rattle.crossbar5.specs.PlanRefusal.{IsPlanRefusal, IsRefusedPlan, plan_fault_line, plan_in};
 ghost use Rattle.crossbar5.specs.Refusal.{ReportsFaultOf};
 
@@ -15,8 +16,9 @@ use crate::status::Status;
 use crate::written::Written;
 use counted_io::{Source, read_all};
 use std::alloc::{AllocError, Global};
-use xbar_diagnostics::{PlanDiagnostic, plan_diagnostic};
+use xbar_diagnostics::PlanDiagnostic;
 use xbar_plan::{Plan, PlanFault};
+use xbar_plan_text::PlanRefusal;
 
 /// A plan with the bytes of the input, or what is written for a plan that is refused.
 #[derive(Drop)]
@@ -26,44 +28,30 @@ pub enum Input {
 }
 
 /// What is written for a refused plan. Running out of memory is the engine's fault instead.
-fn refuse_plan(
-    alloc: Global,
-    plan: PlanSource<'_>,
-    fault: PlanFault,
-) -> Result<Written, EngineFault>
-    ensures written { IfOk result (λ written. (fault ≢ PlanFault.Memory) ×
-        IsPlanRefusal fault written.text.items written.status) }
-    ensures place { IfOk result (λ written. ShowsPlaceIn plan.entry written.diagnostic) }
+fn refuse_plan(alloc: Global, refusal: PlanRefusal) -> Result<Written, EngineFault>
+    ensures written { IfOk result (λ written. (fault_of refusal ≢ PlanFault.Memory) ×
+        IsPlanRefusal (fault_of refusal) written.text.items written.status) }
+    ensures place { IfOk result (λ written. IsOnRefusal refusal written.diagnostic) }
     ensures why { IfErr result (λ why. why ≡ EngineFault.Memory) }
 {
+    let fault = refusal.fault();
     if fault == PlanFault::Memory {
         return Err(EngineFault::Memory);
     }
     Ok(Written {
         text: format!(in alloc; "FAULT,{fault}\n")?.into_bytes(),
         status: Status::PlanRefused,
-        diagnostic: diagnostic_of(alloc, plan, fault),
+        diagnostic: diagnostic_of(refusal),
     })
 }
 
-/// The diagnostic of a plan refused for this fault. It has no place if none is found.
-fn diagnostic_of(
-    alloc: Global,
-    plan: PlanSource<'_>,
-    fault: PlanFault,
-) -> Result<Option<Diagnostic>, AllocError>
-    ensures reports { ReportsFaultOf result (plan_fault_line fault) Status.PlanRefused }
-    ensures place { ShowsPlaceIn plan.entry result }
+/// The diagnostic of a refused plan.
+fn diagnostic_of(refusal: PlanRefusal) -> Result<Option<Diagnostic>, AllocError>
+    ensures reports { ReportsFaultOf result (plan_fault_line (fault_of refusal))
+        Status.PlanRefused }
+    ensures place { IsOnRefusal refusal result }
 {
-    let found = match plan {
-        PlanSource::Example => None,
-        PlanSource::Text(text) => plan_diagnostic(alloc, text, fault)?,
-    };
-    let diagnostic = match found {
-        Some(diagnostic) => diagnostic,
-        None => PlanDiagnostic::without_place(alloc, fault)?,
-    };
-    Ok(Some(Diagnostic::Plan(diagnostic)))
+    Ok(Some(Diagnostic::Plan(PlanDiagnostic { refusal })))
 }
 
 /// Reads the plan and then the input to its end. If the plan is refused, the source
@@ -89,6 +77,6 @@ pub fn read_input<R: Source>(
             let bytes = read_all(alloc, source)?;
             Ok(Input::Read { plan, bytes })
         }
-        Err(fault) => Ok(Input::Refused(refuse_plan(alloc, plan, fault)?)),
+        Err(refusal) => Ok(Input::Refused(refuse_plan(alloc, refusal)?)),
     }
 }

@@ -1,6 +1,6 @@
 use std::alloc::Global;
-use xbar_plan::{Plan, PlanFault};
-use xbar_plan_text::PlanText;
+use xbar_plan::Plan;
+use xbar_plan_text::{PlanRefusal, PlanText};
 
 /// Where the plan of an office comes from.
 #[derive(Clone, Copy)]
@@ -12,17 +12,19 @@ pub enum PlanSource<'p> {
 }
 
 impl PlanSource<'_> {
-    ghost use Rattle.xbar_plan_text.specs.Document.{IsReading};
+    ghost use Rattle.xbar_plan_text.specs.Refusal.{IsToldReading};
+    ghost use Rattle.crossbar5.specs.PlanPlaces.{malformed_of, missing_of};
     ghost use Rattle.crossbar5.specs.PlanRefusal.{plan_in};
 
-    /// The plan, or the first fault of its text. `Memory` may be returned in place of a fault that
-    /// would be found later.
-    pub fn read(self, alloc: Global) -> Result<Plan, PlanFault>
-        ensures { IsReading (plan_in self.entry) result }
+    /// The plan, or the first fault of its text and where it is. `Memory` may be returned in place
+    /// of a fault.
+    pub fn read(self, alloc: Global) -> Result<Plan, PlanRefusal>
+        ensures { IsToldReading (plan_in self.entry) (missing_of self.entry) (malformed_of self.entry)
+            result }
     {
         match self {
             PlanSource::Example => Ok(Plan::example(alloc)?),
-            PlanSource::Text(text) => Plan::read(alloc, text),
+            PlanSource::Text(text) => Plan::parse(alloc, text),
         }
     }
 }

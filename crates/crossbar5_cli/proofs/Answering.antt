@@ -1,36 +1,16 @@
 -- What the engine answers, as the program reports it.
-use Rattle.std.proofs.Common.{◌≡◌, ◌≢◌, ℕ, Bool, Bor, List, Option, None, Some, Result, Ok, Err, IfErr, IfOk, IfSome, IsTrue, OnOk, false, inl, inr, option_map, refl, subst, sym}
-use Rattle.std.specs.Io.KnownBytes.{Keeps}
-use Rattle.std.specs.IoError.{error_kind}
-use Rattle.std.specs.declared.io.Error.{Error}
-use Rattle.xbar_moves.specs.declared.kind.Kind.{Kind}
-use Rattle.crossbar5.specs.Faults.{ComesFirst}
-use Rattle.crossbar5_cli.specs.declared.response.Response.{Response}
-use Rattle.crossbar5.specs.declared.engine_fault.EngineFault.{EngineFault}
-use Rattle.crossbar5.specs.declared.engine_fault.EngineFault.TheVariants.{Device, Long, Memory}
-use Rattle.crossbar5.specs.PlanRefusal.{IsRefusedPlan, PlanRead}
-use Rattle.crossbar5.specs.declared.written.Written.{Written}
-use Rattle.crossbar5.specs.Tasks.{IsDone}
-use Rattle.crossbar5_task.specs.declared.task.Task.{Task as EngineTask}
-use Rattle.xbar_plan_text.specs.Document.{plan_of}
-use Rattle.crossbar5_live.specs.Live.{IsLive}
-use Rattle.crossbar5_command.specs.declared.ask.Ask.{Ask}
-use Rattle.xbar_markers.specs.declared.call_markers.CallMarkers.{CallMarkers}
-use Rattle.crossbar5_cli.specs.Asks.{MayEndAsked}
-use Rattle.crossbar5_cli.specs.CheckedWork.{RefusesMarkers}
-use Rattle.crossbar5_cli.specs.declared.checked_work.CheckedWork.{CheckedWork}
-use Rattle.crossbar5_cli.specs.declared.checked_work.CheckedWork.TheVariants.{Live, Task}
-use Rattle.crossbar5_cli.specs.Causes.{opening_fault}
-use Rattle.crossbar5_cli.specs.Endings.{ending_of_run}
-use Rattle.crossbar5_cli.specs.Named.{Files, IsFileFault, IsPlanFault, IsPlanNamed, files_of, name_in}
-use Rattle.crossbar5_cli.specs.Sentences.{FileName, reasons_of_run, sentence_on_plan_file, sentence_on_run, text_of}
-use Rattle.crossbar5_cli.specs.Printed.{IsPut, IsStderrText}
-use Rattle.crossbar5_cli.specs.declared.ending.Ending.{Ending}
-use Rattle.crossbar5_cli.specs.declared.ending.Ending.TheVariants.{Failed}
-use Rattle.crossbar5_cli.specs.declared.sentence.Sentence.{Sentence}
-use Rattle.crossbar5_cli.specs.Program.{DoesAsk, Errors}
-use Rattle.crossbar5_cli.specs.Runs.{IsEndAsAsked, IsEndOf, Streams}
-use Rattle.crossbar5_cli.specs.Work.{IsAnswer, IsDiagnosticOf, IsWorkDone}
+use Rattle.std.proofs.Common.{◌≡◌, ◌≢◌, ℕ, Bool, Bor, List, Option, None, Some, Result, Ok, Err, IfErr, IfOk, IfSome, IsTrue, OnOk, false, inl, inr, option_map}
+use Rattle.std.proofs.Common.{refl, subst, sym}
+use Rattle.{std.specs.{Io.KnownBytes.Keeps, IoError.error_kind, declared.io.Error.Error}, xbar_moves.specs.declared.kind.Kind.Kind}
+use Rattle.crossbar5.specs.{Faults.ComesFirst, declared.{engine_fault.EngineFault.{EngineFault, TheVariants.{Device, Long, Memory}}, written.Written.Written}}
+use Rattle.crossbar5.specs.{PlanRefusal.{IsRefusedPlan, PlanRead}, Tasks.IsDone}
+use Rattle.crossbar5_cli.specs.declared.{response.Response.Response, checked_work.CheckedWork.{CheckedWork, TheVariants.{Live, Task}}, ending.Ending.Ending}
+use Rattle.crossbar5_cli.specs.{declared.{ending.Ending.TheVariants.Failed, sentence.Sentence.Sentence}, Asks.MayEndAsked, CheckedWork.RefusesMarkers}
+use Rattle.crossbar5_cli.specs.{Causes.opening_fault, Endings.ending_of_run, Named.{Files, IsFileFault, IsPlanFault, IsPlanNamed, files_of, name_in}}
+use Rattle.crossbar5_cli.specs.{Sentences.{FileName, reasons_of_run, sentence_on_plan_file, sentence_on_run, text_of}, Printed.{IsPut, IsStderrText}}
+use Rattle.crossbar5_cli.specs.{Program.{DoesAsk, Errors}, Runs.{IsEndAsAsked, IsEndOf, Streams}, Work.{IsAnswer, IsDiagnosticOf, IsWorkDone}}
+use Rattle.{crossbar5_task.specs.declared.task.Task.{Task as EngineTask}, xbar_plan_text.specs.Document.plan_of, crossbar5_live.specs.Live.IsLive}
+use Rattle.{crossbar5_command.specs.declared.ask.Ask.Ask, xbar_markers.specs.declared.call_markers.CallMarkers.CallMarkers}
 
 -- what is done of work of this kind is done
 module _ (work : CheckedWork) (plan : PlanRead) (unread : Option (List ℕ)) (run : Result Written EngineFault) where
@@ -124,7 +104,8 @@ done_ask ask files streams errors ending ended is_printed reasons sentence e end
     })
 
 -- what a file gave that may be opened like this is what its name gives
-module _ {File Text : Type 0} (items : Text → List ℕ) (Opens : List ℕ → Result File Error → Type 0) (remaining : File → Option (List ℕ)) (failures : File → ℕ) (reads : File → Option ℕ) (name : List ℕ) where
+module _ {File Text : Type 0} (items : Text → List ℕ) (Opens : List ℕ → Result File Error → Type 0) (remaining : File → Option (List ℕ)) (failures : File → ℕ)
+    (reads : File → Option ℕ) (name : List ℕ) where
   pub named_text : (opened : Result File Error) (result : Result Text EngineFault) → Opens name opened
       → IfOk opened (λ file. IfOk result (λ text. IfSome (remaining file) (λ all. items text ≡ all)))
       → IfErr opened (λ error. result ≡ Err (opening_fault (error_kind error)))
@@ -142,7 +123,8 @@ module _ {File Text : Type 0} (items : Text → List ℕ) (Opens : List ℕ → 
   named_fault opened (Ok text) opens refused failed = tt
 
 -- the same by the name of the plan's file
-module _ {File Text : Type 0} (items : Text → List ℕ) (Opens : List ℕ → Result File Error → Type 0) (remaining : File → Option (List ℕ)) (failures : File → ℕ) (reads : File → Option ℕ) (file : FileName) (name : Bor (List ℕ)) (is : file ≡ Some name) where
+module _ {File Text : Type 0} (items : Text → List ℕ) (Opens : List ℕ → Result File Error → Type 0) (remaining : File → Option (List ℕ)) (failures : File → ℕ)
+    (reads : File → Option ℕ) (file : FileName) (name : Bor (List ℕ)) (is : file ≡ Some name) where
   pub text_in : (opened : Result File Error) (result : Result Text EngineFault) → Opens name.now opened
       → IfOk opened (λ file. IfOk result (λ text. IfSome (remaining file) (λ all. items text ≡ all)))
       → IfErr opened (λ error. result ≡ Err (opening_fault (error_kind error)))

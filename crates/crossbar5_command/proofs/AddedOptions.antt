@@ -1,17 +1,8 @@
 -- Arguments that are added to a command, one after the other.
-use Rattle.std.proofs.Common.{◌≡◌, ◌∙◌, ◌||◌, ap, sym, append_assoc, append-nil, false, List, [], ◌∷◌, ◌++◌, map}
-use Rattle.std.specs.Prelude.{All}
-use Rattle.std.proofs.lemmas.List.Elements.{All-head, All-tail}
-use Rattle.std.proofs.lemmas.Simd.{map-map}
-use Rattle.clap.specs.Built.{AddsArg}
-use Rattle.clap.specs.Simple.{new_app, new_shape}
-use Rattle.clap.specs.Words.{AddsInTurn, App, Rule, app_of, rule_of, with_rule}
-use Rattle.clap.specs.declared.builder.arg.Arg.{Arg}
-use Rattle.clap.specs.declared.builder.command.Command.{Command}
-use Rattle.clap.specs.declared.builder.command.Command.TheViews.{out-Command}
-use Rattle.crossbar5_command.specs.Program.{rule_for, shape_for}
-use Rattle.crossbar5_command.specs.Table.{named_option, named_subcommand}
-use Rattle.crossbar5_command.specs.declared.subcommands.Subcommand.{Subcommand as Row}
+use Rattle.std.proofs.Common.{◌≡◌, ◌∙◌, ◌||◌, ap, sym, append_assoc, append-nil, false, List, [], ◌∷◌, ◌++◌, map, All}
+use Rattle.{std.proofs.lemmas.{List.Elements.{All-head, All-tail}, Simd.map-map}, clap.specs.{Built.AddsArg, Simple.{new_app, new_shape}, Words.AddsInTurn}}
+use Rattle.clap.specs.{Words.{App, Rule, app_of, rule_of, with_rule}, declared.builder.{arg.Arg.Arg, command.Command.{Command, TheViews.out-Command}}}
+use Rattle.crossbar5_command.specs.{Program.{rule_for, shape_for}, Table.{named_option, named_subcommand}, declared.subcommands.Subcommand.{Subcommand as Row}}
 
 -- it is an argument of its command alone
 abbrev pub IsOwn : Arg → Type 0

@@ -1,11 +1,7 @@
 -- Subcommands that are added to a program, one after the other.
-use Rattle.std.proofs.Common.{◌≡◌, ◌∙◌, ap, sym, true, false, List, [], ◌∷◌, map}
-use Rattle.std.specs.Prelude.{All}
-use Rattle.std.proofs.lemmas.List.Elements.{All-head, All-tail}
-use Rattle.clap.specs.Simple.{App, Shape, with_subcommand}
-use Rattle.clap.specs.Words.{AddsInTurn, AddsSubcommand, app_of}
-use Rattle.clap.specs.declared.builder.command.Command.{Command}
-use Rattle.clap.specs.declared.builder.command.Command.TheViews.{out-Command}
+use Rattle.std.proofs.Common.{◌≡◌, ◌∙◌, ap, sym, true, false, List, [], ◌∷◌, map, All}
+use Rattle.{std.proofs.lemmas.List.Elements.{All-head, All-tail}, clap.specs.{Simple.{App, Shape, with_subcommand}, Words.{AddsInTurn, AddsSubcommand, app_of}}}
+use Rattle.clap.specs.declared.builder.command.Command.{Command, TheViews.out-Command}
 use Rattle.crossbar5_command.specs.Program.{program, program_of, shape_for, subcommands}
 
 -- what a command alone is, without its subcommands

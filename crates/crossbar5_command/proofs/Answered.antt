@@ -1,19 +1,11 @@
 -- What is answered to words that clap accepts.
-use Rattle.std.proofs.Common.{◌≡◌, ◌∙◌, ◌≤◌, ◌<◌, ap, arith, refl, sym, subst, cond, Bool, true, false, List, [], ◌∷◌, ℕ, Result, Ok, Err, IfErr, IfOk, IsErrAnd, MatchResult, nat_lt, length}
-use Rattle.std.proofs.lemmas.Bool.{le-ltb, lt-ltb}
-use Rattle.clap.specs.Kinds.{or_else}
-use Rattle.clap.specs.Words.{Kinds, Text, fault_of, subcommand_of}
-use Rattle.clap.specs.declared.error.kind.ErrorKind.TheVariants.{ArgumentConflict}
-use Rattle.crossbar5_command.specs.Ask.{IsAnswerTo, IsAskOf, IsAskWith, IsUnnamedAsk, name_of}
-use Rattle.crossbar5_command.specs.Fault.{IsFaultAmong, conflict_of, faults_of, form_count}
-use Rattle.crossbar5_command.specs.Program.{program, replay, subcommands}
-use Rattle.crossbar5_command.specs.Subcommand.{AskFor, GivenOption, NamesOnly, Subcommand, value_of}
-use Rattle.crossbar5_command.specs.declared.ask.Ask.{Ask}
-use Rattle.crossbar5_command.specs.declared.command_fault.CommandFault.{CommandFault}
-use Rattle.crossbar5_command.specs.declared.command_fault.CommandFault.TheVariants.{Memory}
-use Rattle.crossbar5_command.proofs.FaultKinds.{among_none}
-use Rattle.crossbar5_command.proofs.OtherWords.{names_only, no_subcommand}
-use Rattle.crossbar5_command.proofs.SubcommandWords.{words_conflict, words_read}
+use Rattle.std.proofs.Common.{◌≡◌, ◌∙◌, ◌≤◌, ◌<◌, ap, arith, refl, sym, subst, cond, Bool, true, false, List, [], ◌∷◌, ℕ, Result, Ok, Err, IfErr, IfOk}
+use Rattle.std.proofs.Common.{IsErrAnd, MatchResult, nat_lt, length, le-ltb, lt-ltb}
+use Rattle.clap.specs.{Kinds.or_else, Words.{Kinds, Text, fault_of, subcommand_of}, declared.error.kind.ErrorKind.TheVariants.ArgumentConflict}
+use Rattle.crossbar5_command.specs.{Ask.{IsAnswerTo, IsAskOf, IsAskWith, IsUnnamedAsk, name_of}, Fault.{IsFaultAmong, conflict_of, faults_of, form_count}}
+use Rattle.crossbar5_command.specs.{Program.{program, replay, subcommands}, Subcommand.{AskFor, GivenOption, NamesOnly, Subcommand, value_of}}
+use Rattle.crossbar5_command.specs.declared.{ask.Ask.Ask, command_fault.CommandFault.{CommandFault, TheVariants.Memory}}
+use Rattle.crossbar5_command.proofs.{FaultKinds.among_none, OtherWords.{names_only, no_subcommand}, SubcommandWords.{words_conflict, words_read}}
 
 -- an answer with the ask, or with a fault among these kinds
 abbrev Answers : (Ask → Type 0) → Kinds → Result Ask CommandFault → Type 0
@@ -35,7 +27,8 @@ some_kinds : (IsAsked : Ask → Type 0) (kinds : Kinds) (answer : Result Ask Com
 some_kinds IsAsked kinds (Ok ask) is some = some is.1
 some_kinds IsAsked kinds (Err fault) is some = is
 
-module _ (words : List Text) (none : fault_of program words ≡ []) (answer : Result Ask CommandFault) (is : IsAnswerTo (subcommand_of program words) answer) where
+module _ (words : List Text) (none : fault_of program words ≡ []) (answer : Result Ask CommandFault)
+    (is : IsAnswerTo (subcommand_of program words) answer) where
   pub answer_asked : IfOk answer (IsAskOf (subcommand_of program words))
   answer_asked = go answer is
     where

@@ -1,12 +1,7 @@
 -- Faults and their kinds.
 use Rattle.std.proofs.Common.{◌≡◌, ◌∙◌, Bool, true, false, true≢false, ap, refl, sym, subst, inl, inr, [], ◌∷◌, Result, Ok, Err, IsErrAnd, MatchResult}
-use Rattle.clap.specs.Kinds.{or_else}
-use Rattle.clap.specs.Words.{HasKind, Kinds, kind_of}
-use Rattle.clap.specs.declared.error.Error.{Error}
-use Rattle.clap.specs.declared.error.kind.ErrorKind.{ErrorKind}
-use Rattle.clap.specs.declared.error.kind.ErrorKind.TheVariants.{OutOfMemory}
-use Rattle.crossbar5_command.specs.Fault.{IsFaultAmong, fault_for, fault_of_kind}
-use Rattle.crossbar5_command.specs.declared.command_fault.CommandFault.{CommandFault}
+use Rattle.clap.specs.{Kinds.or_else, Words.{HasKind, Kinds, kind_of}, declared.error.{Error.Error, kind.ErrorKind.{ErrorKind, TheVariants.OutOfMemory}}}
+use Rattle.crossbar5_command.specs.{Fault.{IsFaultAmong, fault_for, fault_of_kind}, declared.command_fault.CommandFault.CommandFault}
 use Rattle.crossbar5_command.specs.declared.command_fault.CommandFault.TheVariants.{Memory, Refused}
 
 -- if clap runs out of memory, the fault is `Memory`

@@ -1,8 +1,6 @@
 -- The first element of a list that passes a test.
-use Rattle.std.proofs.Common.{◌≡◌, ◌∙◌, ap, refl, sym, cond, Bool, true, false, true≢false, List, [], ◌∷◌, Option, Some}
-use Rattle.std.specs.Prelude.{find, is_some, option_map, unwrap_or}
-use Rattle.std.specs.List.{list_all}
-use Rattle.std.proofs.lemmas.Bool.{and_parts}
+use Rattle.std.proofs.Common.{◌≡◌, ◌∙◌, ap, refl, sym, cond, Bool, true, false, true≢false, List, [], ◌∷◌, Option, Some, find, is_some, option_map, unwrap_or}
+use Rattle.std.{specs.List.list_all, proofs.lemmas.Bool.and_parts}
 
 -- one more at the front, of a list and of what f makes of it
 pub found_first : {X Y : Type 0} (f : X → Y) (here same : Bool) → here ≡ same → (x : X) (found : Option X) (rest : Option Y)

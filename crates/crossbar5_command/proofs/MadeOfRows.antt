@@ -1,8 +1,7 @@
 -- What is made from the rows of a table, one after the other.
-use Rattle.std.proofs.Common.{◌≡◌, ◌∙◌, ◌+◌, ◌<◌, ◌≤◌, ap, refl, subst, sym, List, [], ◌∷◌, ◌++◌, ℕ, length, map, take, Result, Ok, Err}
-use Rattle.std.specs.Prelude.{All, IfOk, IsOkAnd, slice_index_or}
-use Rattle.std.proofs.lemmas.List.{map_push, take_all, take_more}
-use Rattle.std.proofs.lemmas.List.Elements.{All-nil, All-push, All-same}
+use Rattle.std.proofs.Common.{◌≡◌, ◌∙◌, ◌+◌, ◌<◌, ◌≤◌, ap, refl, subst, sym, List, [], ◌∷◌, ◌++◌, ℕ, length, map, take, Result, Ok, Err, All, IfOk, IsOkAnd}
+use Rattle.std.proofs.Common.{slice_index_or, take_all}
+use Rattle.std.proofs.lemmas.List.{map_push, take_more, Elements.{All-nil, All-push, All-same}}
 
 -- each has the shape that its row asks for, and is local
 pub record AreMade {Row X Shape : Type 0} (shape : X → Shape) (wanted : Row → Shape) (IsLocal : X → Type 0) (rows : List Row) (all : List X) : Type 0 where

@@ -1,25 +1,12 @@
 -- What is asked by the matches of a subcommand.
-use Rattle.std.proofs.Common.{◌≡◌, ◌∙◌, ap, refl, sym, subst, cond, Bool, true, false, true≢false, List, [], ◌∷◌, Option, Some, None, Result, MatchResult}
-use Rattle.std.specs.Prelude.{Box, IfSome, IsSome, is_some, option_and_then, option_map, unwrap_or}
-use Rattle.std.specs.Borrow.{Bor}
-use Rattle.std.specs.Box.{box_value}
-use Rattle.std.specs.Option.{option_map_or}
-use Rattle.std.specs.Str.{bytes_eq}
-use Rattle.std.proofs.lemmas.Slice.Eq.{bytes_eq-Decides}
-use Rattle.clap.specs.Matches.{first_value, found_of, subcommand_name_of}
-use Rattle.clap.specs.Simple.{subcommand_rows}
-use Rattle.clap.specs.Walk.{Row, Text, first_of, rows_of}
-use Rattle.clap.specs.Words.{subcommand_rows_of}
-use Rattle.clap.specs.declared.parser.matches.ArgMatches.{ArgMatches}
-use Rattle.clap.specs.declared.parser.matches.ArgMatches.TheViews.{out-ArgMatches, out-SubCommand}
-use Rattle.clap.specs.declared.parser.matches.SubCommand.{SubCommand}
+use Rattle.std.proofs.Common.{◌≡◌, ◌∙◌, ap, refl, sym, subst, cond, Bool, true, false, true≢false, List, [], ◌∷◌, Option, Some, None, Result, MatchResult, Box}
+use Rattle.std.proofs.Common.{IfSome, IsSome, is_some, option_and_then, option_map, unwrap_or, Bor, box_value, bytes_eq}
+use Rattle.{std.{specs.Option.option_map_or, proofs.lemmas.Slice.Eq.bytes_eq-Decides}, clap.specs.Matches.{first_value, found_of, subcommand_name_of}}
+use Rattle.clap.specs.{Simple.subcommand_rows, Walk.{Row, Text, first_of, rows_of}, Words.subcommand_rows_of, declared.parser.matches.ArgMatches.ArgMatches}
+use Rattle.clap.specs.declared.parser.matches.{ArgMatches.TheViews.{out-ArgMatches, out-SubCommand}, SubCommand.SubCommand}
 use Rattle.clap.proofs.WalkLemmas.{first_value-rows}
-use Rattle.crossbar5_command.specs.Ask.{IsAnswerTo, IsAnswerWith, IsAskWith}
-use Rattle.crossbar5_command.specs.Fault.{IsFaultAmong, conflict_in, conflict_of}
-use Rattle.crossbar5_command.specs.Program.{replay, subcommands}
-use Rattle.crossbar5_command.specs.Subcommand.{Subcommand, subcommand_named}
-use Rattle.crossbar5_command.specs.declared.ask.Ask.{Ask}
-use Rattle.crossbar5_command.specs.declared.command_fault.CommandFault.{CommandFault}
+use Rattle.crossbar5_command.specs.{Ask.{IsAnswerTo, IsAnswerWith, IsAskWith}, Fault.{IsFaultAmong, conflict_in, conflict_of}, Program.{replay, subcommands}}
+use Rattle.crossbar5_command.specs.{Subcommand.{Subcommand, subcommand_named}, declared.{ask.Ask.Ask, command_fault.CommandFault.CommandFault}}
 
 -- the name that was met is that of the rows
 name_of_rows : {Z : Type 0} (met : Option (Box SubCommand Z))
@@ -46,7 +33,8 @@ met_answered s named m options answer name_is rows_is answers =
     let rows = rows_of (found_of options.now) in
     let values : Text → Option Text = λ id. first_of id rows in
     let met = by_parts s.name rows (subcommand_rows_of m) (sym (name_of_rows (out-ArgMatches m).subcommand) ∙ name_is) rows_is in
-    let conflict : conflict_of (Some (s.name, rows)) ≡ conflict_in s.options values = ap (λ found. option_map_or (λ s. conflict_in s.options values) found []) named in
+    let conflict : conflict_of (Some (s.name, rows)) ≡ conflict_in s.options values =
+    ap (λ found. option_map_or (λ s. conflict_in s.options values) found []) named in
     let at_values : IsAnswerWith s values answer = subst (λ vs. IsAnswerWith s vs answer) (λ i id. first_value-rows (found_of options.now) id i) answers in
     subst (λ met. IsAnswerTo met answer) (sym met)
     (subst (λ kinds. MatchResult answer (λ ask. IsAskWith s.name values ask × (kinds ≡ [])) (IsFaultAmong kinds)) (sym conflict) at_values)

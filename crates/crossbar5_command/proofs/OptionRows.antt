@@ -1,17 +1,10 @@
 -- The rows of options that are given, with the defaults of those that aren't.
 use Rattle.std.proofs.Common.{◌≡◌, ◌∙◌, ap, refl, sym, cond, Bool, true, false, true≢false, List, [], ◌∷◌, ◌++◌, Option, Some, None, map, append-nil, codes}
-use Rattle.std.specs.Prelude.{◌||◌, is_some, not, find, fold, option_and_then, option_map, slice_get}
-use Rattle.std.specs.Option.{option_map_or, option_or}
-use Rattle.std.specs.Str.{bytes_eq}
-use Rattle.std.proofs.lemmas.Bool.{and_parts, not-true, or_parts}
-use Rattle.std.proofs.lemmas.List.Folds.{find-append}
-use Rattle.std.proofs.lemmas.Slice.Eq.{bytes_eq-Decides}
-use Rattle.clap.specs.Walk.{Row, Text, at_row, default_rows, first_of, has_row, more_values, reading_by, with_default, with_values, without}
-use Rattle.clap.specs.declared.builder.value_parser.Reading.{Reading}
-use Rattle.clap.specs.declared.builder.value_parser.Reading.TheVariants.{AsWritten}
-use Rattle.clap.specs.declared.parser.matches.ValueSource.{ValueSource}
-use Rattle.clap.specs.declared.parser.matches.ValueSource.TheVariants.{CommandLine, DefaultValue}
-use Rattle.clap.proofs.WalkLemmas.{find-map}
+use Rattle.std.proofs.Common.{◌||◌, is_some, not, find, fold, option_and_then, option_map, slice_get, bytes_eq}
+use Rattle.std.{specs.Option.{option_map_or, option_or}, proofs.lemmas.{Bool.{and_parts, not-true, or_parts}, List.Folds.find-append}}
+use Rattle.{std.proofs.lemmas.Slice.Eq.bytes_eq-Decides, clap.specs.Walk.{Row, Text, at_row, default_rows, first_of, has_row, more_values, reading_by}}
+use Rattle.clap.specs.{Walk.{with_default, with_values, without}, declared.builder.value_parser.Reading.{Reading, TheVariants.AsWritten}}
+use Rattle.clap.{specs.declared.parser.matches.ValueSource.{ValueSource, TheVariants.{CommandLine, DefaultValue}}, proofs.WalkLemmas.find-map}
 use Rattle.crossbar5_command.specs.Subcommand.{Argument, GivenOption, NamedOption, default_of, given_named, given_value, nothing, option_named, value, value_of}
 use Rattle.crossbar5_command.proofs.OptionRules.{are_apart, built_rule, rules_for}
 
@@ -87,7 +80,8 @@ defaults_listed name (value test (Some v)) = refl
 abbrev rows_with : Text → Reading → Option Text → List Row → List Row
 rows_with name how default rows = cond (has_row name rows) rows (default_rows name how (listed default) rows)
 
-one_default : (name : Text) (how : Reading) (default : Option Text) (rows : List Row) (id : Text) (other : Option Text) → (bytes_eq name id ≡ true → other ≡ None)
+one_default : (name : Text) (how : Reading) (default : Option Text) (rows : List Row) (id : Text) (other : Option Text)
+    → (bytes_eq name id ≡ true → other ≡ None)
     → value_or (row_named id (rows_with name how default rows)) other ≡ value_or (row_named id rows) (cond (bytes_eq name id) default other)
 one_default name how default rows id other apart = go (has_row name rows) refl (bytes_eq name id) refl default apart
   where
@@ -145,7 +139,8 @@ all_defaults (o ∷ rest) rows id are =
     (defaults_listed o.name o.argument)
     ∙ all_defaults rest (rows_with o.name how (default_of o.argument) rows) id (and_parts (not (is_some (option_named rest o.name))) _ are).1
     ∙ one_default o.name how (default_of o.argument) rows id (default_in rest id)
-    (λ same. ap (default_in rest) (sym ((bytes_eq-Decides o.name id).0 same)) ∙ none_of (option_named rest o.name) (not-true _ (and_parts (not (is_some (option_named rest o.name))) _ are).0))
+    (λ same. ap (default_in rest) (sym ((bytes_eq-Decides o.name id).0 same))
+    ∙ none_of (option_named rest o.name) (not-true _ (and_parts (not (is_some (option_named rest o.name))) _ are).0))
     ∙ ap (value_or (row_named id rows)) (sym (default_found o rest id))
   where
     none_of : (found : Option NamedOption) → is_some found ≡ false → option_and_then (λ o. default_of o.argument) found ≡ None

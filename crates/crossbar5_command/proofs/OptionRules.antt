@@ -1,18 +1,11 @@
 -- What clap builds of the options of a subcommand, and which of them a name finds.
-use Rattle.std.proofs.Common.{◌≡◌, ◌∙◌, ◌&&◌, ◌+◌, ap, arith, refl, sym, cond, Bool, true, false, true≢false, List, [], ◌∷◌, ◌++◌, Some, None, ℕ, suc, length, map, nat_lt, take, codes}
-use Rattle.std.specs.Prelude.{◌||◌, ◌==◌, not, is_some, option_map}
+use Rattle.std.proofs.Common.{◌≡◌, ◌∙◌, ◌&&◌, ◌+◌, ap, arith, refl, sym, cond, Bool, true, false, true≢false, List, [], ◌∷◌, ◌++◌, Some, None, ℕ, suc, length}
+use Rattle.std.proofs.Common.{map, nat_lt, take, codes, ◌||◌, ◌==◌, not, is_some, option_map, bytes_eq}
 use Rattle.std.specs.List.{after_first, before_first, list_all, list_any, position_or_len}
-use Rattle.std.specs.Str.{bytes_eq}
-use Rattle.std.proofs.lemmas.Bool.{and_from, and_parts, not-true, or_parts}
-use Rattle.std.proofs.lemmas.Slice.Eq.{bytes_eq-Decides}
-use Rattle.clap.specs.Lexer.{has_byte, long_of}
-use Rattle.clap.specs.Simple.{Shape, built, filled, filled_from, help_rule, new_shape}
-use Rattle.clap.specs.Takes.{default_passes}
-use Rattle.clap.specs.Walk.{Rule, Text, arg_by_id, arg_by_index, arg_by_long}
-use Rattle.std.proofs.Math.Bool.{or-false}
-use Rattle.crossbar5_command.specs.Program.{program_of, rule_for}
-use Rattle.crossbar5_command.specs.Subcommand.{NamedOption, Subcommand, hyphen, option_named}
-use Rattle.crossbar5_command.proofs.FirstFound.{found_first, found_passes}
+use Rattle.std.proofs.{lemmas.{Bool.{and_from, and_parts, not-true, or_parts}, Slice.Eq.bytes_eq-Decides}, Math.Bool.or-false}
+use Rattle.clap.specs.{Lexer.{has_byte, long_of}, Simple.{Shape, built, filled, filled_from, help_rule, new_shape}, Takes.default_passes}
+use Rattle.{clap.specs.Walk.{Rule, Text, arg_by_id, arg_by_index, arg_by_long}, crossbar5_command.specs.Program.{program_of, rule_for}}
+use Rattle.crossbar5_command.{specs.Subcommand.{NamedOption, Subcommand, hyphen, option_named}, proofs.FirstFound.{found_first, found_passes}}
 
 -- an option as clap builds it, and all of a subcommand, with the `help` that it adds
 abbrev pub built_rule : NamedOption → Rule

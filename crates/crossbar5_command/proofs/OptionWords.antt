@@ -1,23 +1,19 @@
 -- What clap makes of the words of options, one option after the other.
-use Rattle.std.proofs.Common.{◌≡◌, ◌∙◌, ◌&&◌, ap, refl, sym, subst, cond, Bool, true, false, true≢false, List, [], ◌∷◌, ◌++◌, Option, Some, None, inl, inr, append_assoc, append-nil, codes, map, nat_lt}
-use Rattle.std.specs.Prelude.{◌||◌, IfSome, flat_map, fold, is_some, not, option_map}
-use Rattle.std.specs.Option.{IsSomeAnd, option_map_or}
-use Rattle.std.specs.Str.{bytes_eq}
-use Rattle.std.proofs.lemmas.Bool.{and_from, false_from_ne_true}
-use Rattle.std.proofs.lemmas.Slice.Eq.{bytes_eq-Decides}
-use Rattle.clap.specs.Lexer.{long_of}
-use Rattle.clap.specs.Walk.{Held, Row, Rule, Step, Text, Walk, after_flag, after_step, arg_by_id, arg_by_long, has_row, idle, long_met, long_or_other, next, option, option_word, pushed, reading_by, settled, settled_rows, trailing, used, used_by_id, walk_from, walked, word_met}
+use Rattle.std.proofs.Common.{◌≡◌, ◌∙◌, ◌&&◌, ap, refl, sym, subst, cond, Bool, true, false, true≢false, List, [], ◌∷◌, ◌++◌, Option, Some, None, inl, inr}
+use Rattle.std.proofs.Common.{append_assoc, append-nil, codes, map, nat_lt, ◌||◌, IfSome, flat_map, fold, is_some, not, option_map, IsSomeAnd, bytes_eq}
+use Rattle.{std.{specs.Option.option_map_or, proofs.lemmas.{Bool.{and_from, false_from_ne_true}, Slice.Eq.bytes_eq-Decides}}, clap.specs.Lexer.long_of}
+use Rattle.clap.specs.Walk.{Held, Row, Rule, Step, Text, Walk, after_flag, after_step, arg_by_id, arg_by_long, has_row, idle, long_met, long_or_other, next}
+use Rattle.clap.specs.Walk.{option, option_word, pushed, reading_by, settled, settled_rows, trailing, used, used_by_id, walk_from, walked, word_met}
 use Rattle.clap.specs.Takes.{flag_word_passes, long_passes, settle_passes, step_passes, turn_passes, use_passes, walk_passes}
-use Rattle.clap.specs.Faults.{positional_fault, settle_fault, turn_fault, use_fault, walk_fault}
-use Rattle.clap.specs.declared.builder.value_parser.Reading.TheVariants.{AsWritten}
-use Rattle.clap.specs.declared.builder.value_parser.ValueParser.{ValueParser}
+use Rattle.clap.specs.{Faults.{positional_fault, settle_fault, turn_fault, use_fault, walk_fault}, declared.builder.value_parser.Reading.TheVariants.AsWritten}
+use Rattle.clap.specs.declared.{builder.value_parser.ValueParser.ValueParser, parser.matches.ValueSource.TheVariants.CommandLine}
+use Rattle.{clap.proofs.OnLiterals.clap_on_literals, crossbar5_command.specs.Subcommand.{AreOptions, AreValues, Argument, Fits, GivenOption, IsValueFor}}
+use Rattle.crossbar5_command.specs.Subcommand.{NamedOption, Subcommand, given_named, hyphen, nothing, option_named, value, words_of}
+use Rattle.crossbar5_command.proofs.{OptionRows.{has_row-more, row_for, row_of_value, row_replaced}, OptionRules.{IsLong, are_sound, built_rule, is_long}}
+use Rattle.crossbar5_command.proofs.OptionRules.{level, name_found, no_help, no_positional, rule_by_id, rule_by_long, rules_for, same_text}
+use Rattle.crossbar5_command.proofs.ValueWords.{IsRead, IsRefused, before_value, dashes, or_else-first, or_else-second, some_refused, value_or_end, value_read}
+use Rattle.crossbar5_command.proofs.ValueWords.{waiting_for}
 use Rattle.clap.specs.declared.error.kind.ErrorKind.TheVariants as kind
-use Rattle.clap.specs.declared.parser.matches.ValueSource.TheVariants.{CommandLine}
-use Rattle.clap.proofs.OnLiterals.{clap_on_literals}
-use Rattle.crossbar5_command.specs.Subcommand.{AreOptions, AreValues, Argument, Fits, GivenOption, IsValueFor, NamedOption, Subcommand, given_named, hyphen, nothing, option_named, value, words_of}
-use Rattle.crossbar5_command.proofs.OptionRows.{has_row-more, row_for, row_of_value, row_replaced}
-use Rattle.crossbar5_command.proofs.OptionRules.{IsLong, are_sound, built_rule, is_long, level, name_found, no_help, no_positional, rule_by_id, rule_by_long, rules_for, same_text}
-use Rattle.crossbar5_command.proofs.ValueWords.{IsRead, IsRefused, before_value, dashes, or_else-first, or_else-second, some_refused, value_or_end, value_read, waiting_for}
 
 -- there is no row yet for the options that are to be given
 abbrev pub AreNew : List Row → List GivenOption → Type 0
@@ -136,7 +132,8 @@ module _ (s : Subcommand) where
   end_refused name rows [] missing none end = missing end
   end_refused name rows (word ∷ more) missing none end =
       some_refused kind.UnknownArgument []
-      (sym (ap (λ found. option_map_or (λ a. positional_fault rules false a (waiting_for name rows)) found (kind.UnknownArgument ∷ [])) (no_positional s.options 1))
+      (sym (ap (λ found. option_map_or (λ a. positional_fault rules false a (waiting_for name rows)) found (kind.UnknownArgument ∷ []))
+      (no_positional s.options 1))
       ∙ or_else-first _ (walk_fault (level s) [] (walked rules [] (walked rules [] (before_value name rows) dashes) word) more) none)
 
   record IsReadOn (g : GivenOption) (rows : List Row) (pending : Option (Text × List Text)) (more : List Text) : Type 0 where
@@ -277,7 +274,8 @@ module _ (s : Subcommand) where
   options_taken (g ∷ rest) rows pending are options values new settle =
       let more = flat_map words_of rest in
       let one = one_taken g (option_named s.options g.name) refl are options.0 values.0 rows pending new.0 settle in
-      let new_then = subst (λ rs. AreNew rs rest) (sym one.steps.settles) (still_new (settled_rows rules pending rows) (row_for s.options g) rest new.1 options.1) in
+      let new_then =
+      subst (λ rs. AreNew rs rest) (sym one.steps.settles) (still_new (settled_rows rules pending rows) (row_for s.options g) rest new.1 options.1) in
       let later = options_taken rest one.steps.rows_then one.steps.pending_then are options.2 values.1 new_then one.settled in (
         one.passes more later.0,
         ap (λ (w : Walk). settle_passes rules false w.held) (after_more (between rows pending) (words_of g) more ∙ ap (λ w. after w more) one.steps.walks)

@@ -1,22 +1,15 @@
 -- What clap refuses at the place of the subcommand, and what it finds in words that it accepts.
-use Rattle.std.proofs.Common.{◌≡◌, ◌∙◌, ◌≤◌, ◌⊎◌, inl, inr, ap, arith, refl, sym, subst, cond, Bool, true, false, List, [], ◌∷◌, Option, Some, None, ℕ, length, codes}
-use Rattle.std.specs.Prelude.{IfSome, IsSome, is_some, slice_get, option_map}
-use Rattle.std.specs.Option.{option_map_or}
-use Rattle.std.specs.Str.{bytes_eq, chars}
-use Rattle.std.proofs.lemmas.Slice.Eq.{bytes_eq-Decides}
-use Rattle.clap.specs.Kinds.{Kinds}
-use Rattle.clap.specs.Lexer.{long_of, short_of}
-use Rattle.clap.specs.Walk.{Held, Rule, Step, Text, after_flag, bundle, bundle_met, bundle_step, idle, long_or_other, nothing_held, plain, short_or_plain, subcommand_met, subcommand_or_other, trailing, value, walk_from, word_met}
-use Rattle.clap.specs.Words.{fault_of, subcommand_of, takes}
-use Rattle.clap.specs.Faults.{bundle_fault, bundle_step_fault, flag_word_fault, flags_fault, long_fault, other_fault, short_fault, step_fault, turn_fault, walk_fault, word_fault}
-use Rattle.clap.specs.declared.error.kind.ErrorKind.TheVariants as kind
-use Rattle.clap.proofs.OnLiterals.{clap_on_literals}
-use Rattle.crossbar5_command.specs.Ask.{IsAskOf, name_of}
-use Rattle.crossbar5_command.specs.Program.{program, replay, subcommands}
-use Rattle.crossbar5_command.specs.Subcommand.{NamesOnly, Subcommand, subcommand_named}
-use Rattle.crossbar5_command.specs.declared.ask.Ask.{Ask}
-use Rattle.crossbar5_command.proofs.SubcommandWords.{found, label, label_by_name, named, names, subcommand_is, top}
+use Rattle.std.proofs.Common.{◌≡◌, ◌∙◌, ◌≤◌, ◌⊎◌, inl, inr, ap, arith, refl, sym, subst, cond, Bool, true, false, List, [], ◌∷◌, Option, Some, None, ℕ, length}
+use Rattle.std.proofs.Common.{codes, IfSome, IsSome, is_some, slice_get, option_map, bytes_eq, chars}
+use Rattle.std.{specs.Option.option_map_or, proofs.lemmas.Slice.Eq.bytes_eq-Decides}
+use Rattle.clap.specs.{Kinds.Kinds, Lexer.{long_of, short_of}, Walk.{Held, Rule, Step, Text, after_flag, bundle, bundle_met, bundle_step, idle, long_or_other}}
+use Rattle.clap.specs.Walk.{nothing_held, plain, short_or_plain, subcommand_met, subcommand_or_other, trailing, value, walk_from, word_met}
+use Rattle.clap.specs.{Words.{fault_of, subcommand_of, takes}, Faults.{bundle_fault, bundle_step_fault, flag_word_fault, flags_fault, long_fault, other_fault}}
+use Rattle.clap.{specs.Faults.{short_fault, step_fault, turn_fault, walk_fault, word_fault}, proofs.OnLiterals.clap_on_literals}
+use Rattle.crossbar5_command.specs.{Ask.{IsAskOf, name_of}, Program.{program, replay, subcommands}, Subcommand.{NamesOnly, Subcommand, subcommand_named}}
+use Rattle.crossbar5_command.{specs.declared.ask.Ask.Ask, proofs.SubcommandWords.{found, label, label_by_name, named, names, subcommand_is, top}}
 use Rattle.crossbar5_command.proofs.ValueWords.{IsRefused, dashes, or_else-first, or_else-second, some_refused}
+use Rattle.clap.specs.declared.error.kind.ErrorKind.TheVariants as kind
 
 -- the flag that a word names, by whether it names either
 abbrev help_or_version : Bool → Bool → Option Rule
@@ -48,7 +41,8 @@ bundle_read (flag ∷ flags) none = go (slice_get (chars (flag ∷ flags)) 0) re
     go : (first : Option ℕ) → slice_get (chars (flag ∷ flags)) 0 ≡ first → bundle top.rules (flag ∷ flags) nothing_held ≡ (nothing_held, plain)
     go None is = ap (λ first. bundle_step top.rules first (flag ∷ flags) 0 plain nothing_held (bundle_met top.rules (length flags))) is
     go (Some x) is =
-        let no_fault = sym (ap (λ first. bundle_step_fault top.rules false first (flag ∷ flags) 0 nothing_held (flags_fault top.rules false (length flags))) is) ∙ none in
+        let no_fault =
+        sym (ap (λ first. bundle_step_fault top.rules false first (flag ∷ flags) 0 nothing_held (flags_fault top.rules false (length flags))) is) ∙ none in
         absurd (short_refused _ _ _ _ no_fault)
 
 -- `help` is answered with a text
@@ -101,7 +95,8 @@ module _ (word : Text) where
   by_no_name none_named none = go (bytes_eq (codes "help") word) refl
     where
       go : (is_help : Bool) → bytes_eq (codes "help") word ≡ is_help → word ≡ dashes
-      go true is = absurd (help_refused (subst (λ w. turn_fault top names (walk_from nothing_held) w ≡ []) (sym ((bytes_eq-Decides (codes "help") word).0 is)) none))
+      go true is =
+          absurd (help_refused (subst (λ w. turn_fault top names (walk_from nothing_held) w ≡ []) (sym ((bytes_eq-Decides (codes "help") word).0 is)) none))
       go false no_help =
           let no_name : subcommand_met names idle word ≡ None =
           ap (option_map (λ names. names.0)) (label_by_name subcommands word no_help ∙ ap label none_named) in

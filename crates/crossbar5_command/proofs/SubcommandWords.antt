@@ -1,29 +1,17 @@
 -- What clap makes of the words of a subcommand with its options.
-use Rattle.std.proofs.Common.{◌≡◌, ◌∙◌, ◌&&◌, ap, refl, sym, subst, cond, Bool, true, false, List, [], ◌∷◌, ◌++◌, Option, Some, None, codes}
-use Rattle.std.specs.Prelude.{◌||◌, find, flat_map, fold, is_some, not, option_map}
-use Rattle.std.specs.List.{list_all}
-use Rattle.std.specs.Option.{option_map_or}
-use Rattle.std.specs.Str.{bytes_eq}
-use Rattle.std.proofs.lemmas.Bool.{and_from, and_parts, not-true}
-use Rattle.std.proofs.lemmas.Slice.Eq.{bytes_eq-Decides}
-use Rattle.clap.specs.Simple.{Shape, built, entered, label_of, names_of, rows_at}
-use Rattle.clap.specs.Walk.{Held, Names, Rule, Step, Text, Walk, after_step, answers_to, finished, first_of, idle, nothing_held, rows_after, subcommand_met, subcommand_or_other, walk, walk_from, walked, with_default}
-use Rattle.clap.specs.Takes.{default_passes, entered_passes, is_given, is_valid, level_passes, other_passes, settle_passes, step_passes, walk_passes}
-use Rattle.clap.specs.Faults.{entered_fault, level_fault, settle_fault, walk_fault}
-use Rattle.clap.specs.Words.{fault_of, is_simple, is_simple_and_free, subcommand_of, takes}
-use Rattle.clap.proofs.OnLiterals.{clap_on_literals}
-use Rattle.clap.proofs.WalkLemmas.{find-map, walk_stopped}
-use Rattle.std.proofs.Math.Bool.{or-false}
-use Rattle.crossbar5_command.specs.Ask.{IsAskOf, IsAskWith}
-use Rattle.crossbar5_command.specs.Fault.{conflict_in, conflict_of}
-use Rattle.crossbar5_command.specs.Program.{program, program_of, subcommands}
+use Rattle.std.proofs.Common.{◌≡◌, ◌∙◌, ◌&&◌, ap, refl, sym, subst, cond, Bool, true, false, List, [], ◌∷◌, ◌++◌, Option, Some, None, codes, ◌||◌, find}
+use Rattle.std.proofs.Common.{flat_map, fold, is_some, not, option_map, bytes_eq}
+use Rattle.std.{specs.{List.list_all, Option.option_map_or}, proofs.lemmas.{Bool.{and_from, and_parts, not-true}, Slice.Eq.bytes_eq-Decides}}
+use Rattle.{std.proofs.Math.Bool.or-false, clap.specs.{Simple.{Shape, built, entered, label_of, names_of, rows_at}, Walk.{Held, Names, Rule, Step, Text, Walk}}}
+use Rattle.clap.specs.Walk.{after_step, answers_to, finished, first_of, idle, nothing_held, rows_after, subcommand_met, subcommand_or_other, walk, walk_from}
+use Rattle.clap.specs.{Walk.{walked, with_default}, Takes.{default_passes, entered_passes, is_given, is_valid, level_passes, other_passes, settle_passes}}
+use Rattle.clap.specs.{Takes.{step_passes, walk_passes}, Faults.{entered_fault, level_fault, settle_fault, walk_fault}, Words.{fault_of, is_simple}}
+use Rattle.clap.{specs.Words.{is_simple_and_free, subcommand_of, takes}, proofs.{OnLiterals.clap_on_literals, WalkLemmas.{find-map, walk_stopped}}}
+use Rattle.crossbar5_command.specs.{Ask.{IsAskOf, IsAskWith}, Fault.{conflict_in, conflict_of}, Program.{program, program_of, subcommands}}
 use Rattle.crossbar5_command.specs.Subcommand.{AreOptions, AreValues, AskFor, GivenOption, Subcommand, subcommand_named, value_of, words_of}
-use Rattle.crossbar5_command.specs.declared.ask.Ask.{Ask}
-use Rattle.crossbar5_command.proofs.FirstFound.{found_first, found_passes}
-use Rattle.crossbar5_command.proofs.OptionRows.{values_of_rows}
+use Rattle.crossbar5_command.{specs.declared.ask.Ask.Ask, proofs.{FirstFound.{found_first, found_passes}, OptionRows.values_of_rows}}
 use Rattle.crossbar5_command.proofs.OptionRules.{all_rules, are_sound, defaults_pass, first_shape, is_sound_option, level, rules_for}
-use Rattle.crossbar5_command.proofs.OptionWords.{all_new, options_read, options_taken, other_way}
-use Rattle.crossbar5_command.proofs.ValueWords.{or_else-first, or_else-second}
+use Rattle.crossbar5_command.proofs.{OptionWords.{all_new, options_read, options_taken, other_way}, ValueWords.{or_else-first, or_else-second}}
 
 -- ---- the subcommand that a name finds
 
@@ -167,7 +155,8 @@ module _ (name : Text) (s : Subcommand) (is : subcommand_named subcommands name 
       → level_passes (level s) [] nothing_held (flat_map words_of given) false ≡ true
   level_taken given options values =
       let walk_taken = options_taken s given [] None options_sound options values (all_new given) refl in
-      and_from _ _ walk_taken.0 (and_from _ _ walk_taken.1 (and_from _ _ (defaults_pass s.options (and_parts (list_all is_sound_option s.options) _ options_sound).0)
+      and_from _ _ walk_taken.0 (and_from _ _ walk_taken.1
+      (and_from _ _ (defaults_pass s.options (and_parts (list_all is_sound_option s.options) _ options_sound).0)
       (and_from _ _ (all_rules (λ a. a.is_free) (λ o. refl) refl s.options)
       (all_rules (λ a. not a.required || is_given a.id (finished rules (walk rules [] nothing_held (flat_map words_of given)).held))
       (λ o. refl) refl s.options))))
@@ -181,7 +170,8 @@ module _ (name : Text) (s : Subcommand) (is : subcommand_named subcommands name 
       let after_walk = or_else-second (walk_fault (level s) [] (walk_from nothing_held) words) _ none in
       let read = options_read s given [] None options_sound options (all_new given)
       (or_else-first (walk_fault (level s) [] (walk_from nothing_held) words) _ none) (or_else-first (settle_fault rules false end) _ after_walk) in
-      ap (λ rows. first_of id (fold with_default rows rules)) read ∙ values_of_rows s.options given id (and_parts (list_all is_sound_option s.options) _ options_sound).1
+      ap (λ rows. first_of id (fold with_default rows rules)) read
+      ∙ values_of_rows s.options given id (and_parts (list_all is_sound_option s.options) _ options_sound).1
 
 -- ---- words that ask for a subcommand
 
@@ -219,4 +209,5 @@ words_conflict (line ∷ name ∷ more) s given asks none =
     let none_behind = sym (ap (λ ws. level_fault (level s) [] nothing_held ws false []) asks.1) ∙ fault_of-subcommand name s asks.0 line more none in
     ap conflict_of (subcommand_is name s asks.0 line more)
     ∙ ap (λ met. option_map_or (λ s. conflict_in s.options (λ id. first_of id rows)) met []) (found name s asks.0)
-    ∙ ap (conflict_in s.options) (λ i id. (ap (λ ws. first_of id (rows_after (rules_for s.options) [] ws)) asks.1 ∙ level_read name s asks.0 given asks.2 none_behind id) i)
+    ∙ ap (conflict_in s.options) (λ i id. (ap (λ ws. first_of id (rows_after (rules_for s.options) [] ws)) asks.1
+    ∙ level_read name s asks.0 given asks.2 none_behind id) i)

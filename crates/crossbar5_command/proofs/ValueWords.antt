@@ -1,19 +1,14 @@
 -- How clap reads a word after an option that waits for its value.
 use Rattle.std.proofs.Common.{◌≡◌, ◌∙◌, ◌⊎◌, inl, inr, ap, arith, refl, sym, suc, Bool, true, false, List, [], ◌∷◌, Option, Some, None, ℕ, length, cond, nat_eq}
-use Rattle.std.specs.Prelude.{◌&&◌, ◌||◌, slice_get, is_some, option_and_then}
-use Rattle.std.specs.Option.{option_map_or}
-use Rattle.std.specs.Str.{bytes_eq, chars}
-use Rattle.std.proofs.lemmas.Bool.{and_from, ne_eqb}
-use Rattle.std.proofs.lemmas.Slice.Eq.{bytes_eq-Decides}
-use Rattle.clap.specs.Lexer.{long_of, long_of_rest, short_of, short_of_rest, strip_byte}
-use Rattle.clap.specs.Kinds.{Kinds, or_else}
-use Rattle.clap.specs.Walk.{Held, Row, Rule, Text, Walk, after_flag, arg_by_long, arg_by_short, attached_value, bundle, bundle_met, bundle_step, long_or_other, option, plain, plain_word, reacted, short_or_plain, takes_values, trailing, word_met}
-use Rattle.clap.specs.Takes.{bundle_passes, flag_word_passes, step_passes, turn_passes}
-use Rattle.clap.specs.Faults.{bundle_fault, bundle_step_fault, flag_word_fault, flags_fault, long_fault, option_fault, react_fault, settle_fault, short_fault, turn_fault, word_fault}
-use Rattle.clap.specs.declared.error.kind.ErrorKind.{ErrorKind}
-use Rattle.clap.specs.declared.error.kind.ErrorKind.TheVariants as kind
-use Rattle.crossbar5_command.specs.Subcommand.{IsPlainText, Subcommand}
+use Rattle.std.proofs.Common.{◌&&◌, ◌||◌, slice_get, is_some, option_and_then, bytes_eq, chars, ne_eqb}
+use Rattle.std.{specs.Option.option_map_or, proofs.lemmas.{Bool.and_from, Slice.Eq.bytes_eq-Decides}}
+use Rattle.clap.specs.{Lexer.{long_of, long_of_rest, short_of, short_of_rest, strip_byte}, Kinds.{Kinds, or_else}, Walk.{Held, Row, Rule, Text, Walk}}
+use Rattle.clap.specs.Walk.{after_flag, arg_by_long, arg_by_short, attached_value, bundle, bundle_met, bundle_step, long_or_other, option, plain, plain_word}
+use Rattle.clap.specs.{Walk.{reacted, short_or_plain, takes_values, trailing, word_met}, Takes.{bundle_passes, flag_word_passes, step_passes, turn_passes}}
+use Rattle.clap.specs.Faults.{bundle_fault, bundle_step_fault, flag_word_fault, flags_fault, long_fault, option_fault, react_fault, settle_fault, short_fault}
+use Rattle.{clap.specs.{Faults.{turn_fault, word_fault}, declared.error.kind.ErrorKind.ErrorKind}, crossbar5_command.specs.Subcommand.{IsPlainText, Subcommand}}
 use Rattle.crossbar5_command.proofs.OptionRules.{level, rules_for}
+use Rattle.clap.specs.declared.error.kind.ErrorKind.TheVariants as kind
 
 -- ---- kinds of error, one list after the other
 
@@ -108,7 +103,9 @@ module _ (s : Subcommand) where
     short_refused None rest next none = some_refused kind.UnknownArgument [] none
     short_refused (Some a) rest next none = go (takes_values a) none
       where
-        go : (takes : Bool) → IsRefused (cond takes (option_fault rules false a (attached_value rest) h) (or_else (react_fault rules false a [] h) (next (reacted rules a [] h))))
+        go : (takes : Bool)
+            → IsRefused (cond takes (option_fault rules false a (attached_value rest) h)
+            (or_else (react_fault rules false a [] h) (next (reacted rules a [] h))))
         go true none = opening a (attached_value rest) none
         go false none = reacting a [] (or_else-first (react_fault rules false a [] h) _ none)
 
@@ -122,7 +119,8 @@ module _ (s : Subcommand) where
       go : (first : Option ℕ) → slice_get (chars (flag ∷ flags)) 0 ≡ first → bundle rules (flag ∷ flags) (waiting_for id rows) ≡ (waiting_for id rows, plain)
       go None is = ap (λ first. bundle_step rules first (flag ∷ flags) 0 plain (waiting_for id rows) (bundle_met rules (length flags))) is
       go (Some x) is =
-          let no_fault = sym (ap (λ first. bundle_step_fault rules false first (flag ∷ flags) 0 (waiting_for id rows) (flags_fault rules false (length flags))) is) ∙ none in
+          let no_fault =
+          sym (ap (λ first. bundle_step_fault rules false first (flag ∷ flags) 0 (waiting_for id rows) (flags_fault rules false (length flags))) is) ∙ none in
           absurd (short_refused (waiting_for id rows) missing (arg_by_short rules x) _ _ no_fault)
 
   -- a word that isn't refused is the value, or ends the options

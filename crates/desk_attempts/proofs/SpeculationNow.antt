@@ -1,17 +1,11 @@
 -- what can be seen of an attempt with predictions
-use Rattle.std.proofs.Common.{◌≡◌, ℕ, Bool, zero, suc, List, [], ◌∷◌, refl, sym, ap, ◌∙◌}
-use Rattle.std.specs.Prelude.{IfNone, IfSome, Option, Some, None, drop, slice_get}
-use Rattle.std.proofs.lemmas.Option.{same_Some}
-use Rattle.turns.specs.Attempt.{Attempt, act, answer_to}
-use Rattle.turns.specs.Sharings.{sharing_of}
-use Rattle.turns.specs.declared.reading.Reading.{Reading}
+use Rattle.std.proofs.Common.{◌≡◌, ℕ, Bool, zero, suc, List, [], ◌∷◌, refl, sym, ap, ◌∙◌, IfNone, IfSome, Option, Some, None, drop, slice_get}
+use Rattle.{std.proofs.lemmas.Option.same_Some, turns.specs.{Attempt.{Attempt, act, answer_to}, Sharings.sharing_of, declared.reading.Reading.Reading}}
 use Rattle.desk_attempts.specs.Speculation.{Speculation, predicted_of, predictions, validated_of, now_by, now_of, waiting}
-use Rattle.attempts.specs.Validity.{AttemptView, attempt_of}
-use Rattle.attempts.specs.Answers.{answer_in}
-use Rattle.attempts.specs.SystemWith.{SystemWith, system_with}
-use Rattle.attempts.proofs.Inside.{told_by}
+use Rattle.attempts.{specs.{Validity.{AttemptView, attempt_of}, Answers.answer_in, SystemWith.{SystemWith, system_with}}, proofs.Inside.told_by}
 
-module _ {Lock Job Reply Effect Decision ResumePoint : Type 0} (reply_of : Decision → Reply) (effects_of : Decision → List Effect) (p : Speculation Lock Job Decision ResumePoint) where
+module _ {Lock Job Reply Effect Decision ResumePoint : Type 0} (reply_of : Decision → Reply) (effects_of : Decision → List Effect)
+    (p : Speculation Lock Job Decision ResumePoint) where
   -- without predictions it is the predicted attempt
   pub is_far : None ≡ slice_get (predictions p) 0 → now_of reply_of effects_of p ≡ attempt_of reply_of effects_of p.predicted
   is_far none = at (predictions p) none where
@@ -20,11 +14,15 @@ module _ {Lock Job Reply Effect Decision ResumePoint : Type 0} (reply_of : Decis
     at (r ∷ l) none = absurd cc
 
   -- and otherwise it tests the word of the first prediction
-  pub waits : (prediction : Reading ℕ) → Some prediction ≡ slice_get (predictions p) 0 → now_of reply_of effects_of p ≡ waiting Reply Effect p.predicted (validated_of p.validated p.predicted.readings) prediction.word
+  pub waits : (prediction : Reading ℕ) → Some prediction ≡ slice_get (predictions p) 0
+      → now_of reply_of effects_of p ≡ waiting Reply Effect p.predicted (validated_of p.validated p.predicted.readings) prediction.word
   waits prediction got = at (predictions p) got where
-    at : (l : List (Reading ℕ)) → Some prediction ≡ slice_get l 0 → now_by reply_of effects_of p.predicted p.validated l ≡ waiting Reply Effect p.predicted (validated_of p.validated p.predicted.readings) prediction.word
+    at : (l : List (Reading ℕ)) → Some prediction ≡ slice_get l 0
+        → now_by reply_of effects_of p.predicted p.validated l
+        ≡ waiting Reply Effect p.predicted (validated_of p.validated p.predicted.readings) prediction.word
     at [] got = absurd cc
-    at (r ∷ l) got = ap (λ (x : Reading ℕ). waiting Reply Effect p.predicted (validated_of p.validated p.predicted.readings) x.word) (same_Some r prediction (sym got))
+    at (r ∷ l) got =
+        ap (λ (x : Reading ℕ). waiting Reply Effect p.predicted (validated_of p.validated p.predicted.readings) x.word) (same_Some r prediction (sym got))
 
 -- the first of a list, and what follows it
 pub first_of : {A : Type 0} (l : List A) (first : A) → Some first ≡ slice_get l 0 → (rest : List A) × (l ≡ first ∷ rest)
@@ -42,22 +40,35 @@ get_dropped (suc made) [] = refl
 get_dropped (suc made) (x ∷ l) = get_dropped made l
 
 -- the first prediction comes after the validated readings
-pub prediction_at : {Lock Job Decision ResumePoint : Type 0} (predicted : AttemptView Lock Job Decision ResumePoint) (validated : Option ℕ) (now : Speculation Lock Job Decision ResumePoint) → record { predicted = predicted; validated = validated } ≡ now → (made : ℕ) → validated ≡ Some made → slice_get predicted.readings made ≡ slice_get (predictions now) 0
+pub prediction_at : {Lock Job Decision ResumePoint : Type 0} (predicted : AttemptView Lock Job Decision ResumePoint) (validated : Option ℕ)
+    (now : Speculation Lock Job Decision ResumePoint) → record { predicted = predicted; validated = validated } ≡ now → (made : ℕ) → validated
+    ≡ Some made → slice_get predicted.readings made ≡ slice_get (predictions now) 0
 prediction_at predicted validated now inside made is =
     get_dropped made predicted.readings
     ∙ ap (λ (s : Option ℕ). slice_get (predicted_of s predicted.readings) 0) (sym is)
     ∙ ap (λ (p : Speculation _ _ _ _). slice_get (predictions p) 0) inside
 
 -- what can be seen of it now
-module _ {Lock Job Reply Effect Decision ResumePoint A : Type 0} (reply_of : Decision → Reply) (effects_of : Decision → List Effect) (f : Attempt Lock Job Reply Effect → A) where
-  pub seen_far : (predicted : AttemptView Lock Job Decision ResumePoint) (validated : Option ℕ) (now : Speculation Lock Job Decision ResumePoint) → record { predicted = predicted; validated = validated } ≡ now → None ≡ slice_get (predictions now) 0 → f (attempt_of reply_of effects_of predicted) ≡ f (now_of reply_of effects_of now)
-  seen_far predicted validated now inside none = ap (λ (p : Speculation Lock Job Decision ResumePoint). f (attempt_of reply_of effects_of p.predicted)) inside ∙ ap f (sym (is_far reply_of effects_of now none))
+module _ {Lock Job Reply Effect Decision ResumePoint A : Type 0} (reply_of : Decision → Reply) (effects_of : Decision → List Effect)
+    (f : Attempt Lock Job Reply Effect → A) where
+  pub seen_far : (predicted : AttemptView Lock Job Decision ResumePoint) (validated : Option ℕ) (now : Speculation Lock Job Decision ResumePoint)
+      → record { predicted = predicted; validated = validated } ≡ now → None ≡ slice_get (predictions now) 0
+      → f (attempt_of reply_of effects_of predicted) ≡ f (now_of reply_of effects_of now)
+  seen_far predicted validated now inside none =
+      ap (λ (p : Speculation Lock Job Decision ResumePoint). f (attempt_of reply_of effects_of p.predicted)) inside
+      ∙ ap f (sym (is_far reply_of effects_of now none))
 
-  pub seen_waiting : (now : Speculation Lock Job Decision ResumePoint) (prediction : Reading ℕ) → Some prediction ≡ slice_get (predictions now) 0 → f (waiting Reply Effect now.predicted (validated_of now.validated now.predicted.readings) prediction.word) ≡ f (now_of reply_of effects_of now)
+  pub seen_waiting : (now : Speculation Lock Job Decision ResumePoint) (prediction : Reading ℕ) → Some prediction ≡ slice_get (predictions now) 0
+      → f (waiting Reply Effect now.predicted (validated_of now.validated now.predicted.readings) prediction.word) ≡ f (now_of reply_of effects_of now)
   seen_waiting now prediction got = ap f (sym (waits reply_of effects_of now prediction got))
 
 -- without predictions, the answer to its next step depends on the phase of the predicted attempt
-pub told_far : {Lock Job Reply Effect Decision ResumePoint : Type 0} (same : Lock → Lock → Bool) (reply_of : Decision → Reply) (effects_of : Decision → List Effect) (S : SystemWith Lock Job Reply Effect Decision) (k found : ℕ) (p predicted : AttemptView Lock Job Decision ResumePoint) (validated : Option ℕ) (now : Speculation Lock Job Decision ResumePoint) → p ≡ predicted → record { predicted = predicted; validated = validated } ≡ now → None ≡ slice_get (predictions now) 0 → answer_in (sharing_of S.sharing) p.phase k found ≡ answer_to (system_with same reply_of effects_of S) k (act (now_of reply_of effects_of now)) found
+pub told_far : {Lock Job Reply Effect Decision ResumePoint : Type 0} (same : Lock → Lock → Bool) (reply_of : Decision → Reply)
+    (effects_of : Decision → List Effect) (S : SystemWith Lock Job Reply Effect Decision) (k found : ℕ)
+    (p predicted : AttemptView Lock Job Decision ResumePoint) (validated : Option ℕ) (now : Speculation Lock Job Decision ResumePoint) → p
+    ≡ predicted → record { predicted = predicted; validated = validated } ≡ now → None
+    ≡ slice_get (predictions now) 0 → answer_in (sharing_of S.sharing) p.phase k found
+    ≡ answer_to (system_with same reply_of effects_of S) k (act (now_of reply_of effects_of now)) found
 told_far same reply_of effects_of S k found p predicted validated now within inside none =
     told_by same reply_of effects_of S k found p.phase (attempt_of reply_of effects_of p)
     ∙ ap (λ (x : AttemptView _ _ _ _). answer_to (system_with same reply_of effects_of S) k (act (attempt_of reply_of effects_of x)) found) within

@@ -4,7 +4,7 @@ use Rattle.std.proofs.Math.Nat.{div-add-mod, div-lt_iff_lt-mul, lt-div-mul-add, 
 use Rattle.std.proofs.lemmas.Bool.{lt-ltb, ltb-true}
 use Rattle.std.proofs.lemmas.Bool.Decides.{nat_tests}
 use Rattle.std.proofs.lemmas.Nat.{div-mul-add, mod-mul-add, mul-add-lt}
-use Rattle.desks.specs.Places.{ArePlaces}
+use Rattle.turns.specs.Places.{ArePlaces}
 use Rattle.desk_attempts.specs.Groups.{layout_of, place_of, places_of, stride_of}
 use Rattle.desk_attempts.specs.declared.on_groups.Groups.{Groups}
 use Rattle.turns.specs.Layouts.{size_of}
@@ -77,7 +77,8 @@ module _ (groups : Groups) where
         let is : word ≡ c * e + c = omega (arith, last, below) in
         ap word_at (sym none) ∙ there c 0 (omega (arith, wide)) ∙ turn_of ∙ sym is
 
-    first : (b : Bool) → nat_lt word (c * e) ≡ b → word_at (cond b (word / e * s + word % e) (cond (nat_lt word (c * e + c)) ((word - c * e) * s + e) (c * s))) ≡ word
+    first : (b : Bool) → nat_lt word (c * e) ≡ b
+        → word_at (cond b (word / e * s + word % e) (cond (nat_lt word (c * e + c)) ((word - c * e) * s + e) (c * s))) ≡ word
     first true is =
         let here : word < c * e = ltb-true word (c * e) is in
         let group = group_below word here in
@@ -97,7 +98,8 @@ module _ (groups : Groups) where
         up_to (word - c * e) e (omega (arith, here, past)) wide
     second false is past = omega arith
 
-    first : (b : Bool) → nat_lt word (c * e) ≡ b → cond b (word / e * s + word % e) (cond (nat_lt word (c * e + c)) ((word - c * e) * s + e) (c * s)) < c * s + 16
+    first : (b : Bool) → nat_lt word (c * e) ≡ b
+        → cond b (word / e * s + word % e) (cond (nat_lt word (c * e + c)) ((word - c * e) * s + e) (c * s)) < c * s + 16
     first true is =
         let group = group_below word (ltb-true word (c * e) is) in
         let far : word % e < e = mod-lt word group.1 in

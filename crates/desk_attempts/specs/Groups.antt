@@ -1,7 +1,7 @@
 use Rattle.std.specs.Prelude.{◌≡◌, ℕ, ◌+◌, ◌-◌, ◌*◌, ◌/◌, ◌%◌, ◌^◌, nat_lt, if◌then◌else◌}
 use Rattle.turns.specs.Layouts.{Layout, in_rows, lock_word_in, size_of, turn_word_in, zeros_of}
 use Rattle.attempts.specs.SystemWith.{SystemWith}
-use Rattle.desks.specs.Places.{Places}
+use Rattle.turns.specs.Places.{Places}
 use Rattle.desk_attempts.specs.declared.on_groups.Groups.{Groups}
 
 -- the layout of words in such groups

@@ -17,9 +17,9 @@ use Rattle.attempts.specs.SystemWith.{SystemWith, system_with}
 unfoldable pub Predicts : {Lock A : Type 0} → (Lock → Lock → Bool) → Script Lock A → Seen Lock
     → List (Reading ℕ) → Result A (Wanted Lock ℕ) → Type 0
 Predicts same script seen [] found = walk same seen script ≡ found
-Predicts same script seen (reading ∷ ahead) found =
+Predicts same script seen (reading ∷ speculation) found =
     (walk same seen script ≡ Err (Test reading.word))
-    × Predicts same script (seen_with seen reading.word reading.value) ahead found
+    × Predicts same script (seen_with seen reading.word reading.value) speculation found
 
 -- an attempt with predictions: as it is if all of its readings are right, and how many of them are
 -- validated, or None if all are
@@ -89,7 +89,7 @@ module _ {Lock Job Reply Effect Decision ResumePoint : Type 0} (same : Lock → 
       : Type 0 where
     pub all : predicted.readings ≡ made ++ left
     pub found : Result Decision (Wanted Lock ℕ)
-    pub foresees : Predicts same (S.script predicted.job)
+    pub predicts : Predicts same (S.script predicted.job)
         (record { held = predicted.held; readings = made })
         left found
     pub comes : attempt_of reply_of effects_of predicted
@@ -132,7 +132,7 @@ module _ {Lock Job Reply Effect Decision ResumePoint : Type 0} (same : Lock → 
     pub valid_point : ResumePointIsValid old.job new.point (seen_of new)
     pub held : length new.held ≡ length old.held → new.held ≡ old.held
     pub read : new.readings ≡ old.readings ++ drop (length old.readings) new.readings
-    pub foresees : length new.held ≡ length old.held
+    pub predicts : length new.held ≡ length old.held
         → Predicts same (S.script old.job) (seen_of old)
         (drop (length old.readings) new.readings) found
 

@@ -1,18 +1,18 @@
-ghost use Rattle.std.specs.Prelude.{◌≡◌, ◌≤◌, ◌<◌, IfNone, IfSome};
-ghost use Rattle.turns.specs.Attempt.{act};
+ghost use Rattle.std.specs.Prelude.{◌≡◌, ◌≤◌, ◌<◌, IfNone, IfSome, option_map};
+ghost use Rattle.turns.specs.Attempt.{act, asked_in};
 ghost use Rattle.turns.specs.Sharings.{sharing_of};
 ghost use Rattle.turns.specs.declared.act.Act.TheVariants.{Finished};
 ghost use Rattle.desks.specs.WordSteps.{Makes};
 ghost use Rattle.desk_attempts.specs.Of.{MayApply, IsValidSpeculation, now_of};
 ghost use Rattle.attempts.specs.Of.{system_of};
 
+use crate::in_room::InRoom;
 use crate::now::{
-    apply_found, apply_past_turn_now, begin_next_now, begin_now, gives_back, has_ended, next_now,
-    next_past_turn_now, next_without_lock_now, outcome_now, restart_now,
+    apply_found, apply_past_turn_now, asked, begin_next_now, begin_now, gives_back, has_ended,
+    next_now, next_past_turn_now, next_without_lock_now, outcome_now, restart_now,
 };
-use crate::on_words::OnWords;
 use crate::speculation::SpeculationOf;
-use crate::word_step::{lock_to_acquire, operation, place};
+use attempts::{OnWords, step_operation, step_place};
 use desks::{Jobs, WordStep};
 use std::alloc::{AllocError, Global};
 use std::marker::PhantomData;
@@ -20,7 +20,7 @@ use std::ops::Range;
 use turns::{Act, Answer, Phase, Reading};
 
 /// Does nothing. Called for its contract, that an answer may be applied.
-fn may_apply<S: OnWords<READINGS, HELD>, const READINGS: usize, const HELD: usize>(
+fn may_apply<S: InRoom<R, READINGS, HELD>, R, const READINGS: usize, const HELD: usize>(
     setting: &S::Setting,
     _program: &SpeculationOf<S, READINGS, HELD>,
 )
@@ -31,7 +31,7 @@ fn may_apply<S: OnWords<READINGS, HELD>, const READINGS: usize, const HELD: usiz
 
 /// The words under the lock that the pending step seizes, or an empty range if it seizes none or
 /// the number `found` tells that it didn't.
-fn words_under_seized<S: OnWords<READINGS, HELD>, const READINGS: usize, const HELD: usize>(
+fn words_under_seized<S: InRoom<R, READINGS, HELD>, R, const READINGS: usize, const HELD: usize>(
     setting: &S::Setting,
     program: &SpeculationOf<S, READINGS, HELD>,
     found: u64,
@@ -51,7 +51,7 @@ fn words_under_seized<S: OnWords<READINGS, HELD>, const READINGS: usize, const H
 
 /// The attempt's next step as an operation on a word. None if there is no next step.
 #[inline(always)]
-fn on_word<S: OnWords<READINGS, HELD>, const READINGS: usize, const HELD: usize>(
+fn on_word<S: InRoom<R, READINGS, HELD>, R, const READINGS: usize, const HELD: usize>(
     setting: &S::Setting,
     actor: u32,
     _program: &SpeculationOf<S, READINGS, HELD>,
@@ -70,19 +70,32 @@ fn on_word<S: OnWords<READINGS, HELD>, const READINGS: usize, const HELD: usize>
         return None;
     }
     Some(WordStep {
-        place: place::<S, READINGS, HELD>(setting, step),
-        operation: operation::<S, READINGS, HELD>(setting, actor, step),
+        place: step_place::<S, READINGS, HELD>(setting, step),
+        operation: step_operation::<S, READINGS, HELD>(setting, actor, step),
     })
 }
 
-/// The jobs of `S` as desks run them: by attempts that make predictions. `READINGS` and `HELD` are
-/// the largest numbers of words that a script tests and of locks that it seizes.
-pub struct Attempts<S, const READINGS: usize, const HELD: usize> {
-    of: PhantomData<S>,
+/// The word of the lock that the attempt's next step requests or seizes.
+fn lock_to_acquire<S: OnWords<READINGS, HELD>, const READINGS: usize, const HELD: usize>(
+    setting: &S::Setting,
+    program: &SpeculationOf<S, READINGS, HELD>,
+) -> Option<usize>
+    ensures { result
+        ≡ option_map (S.system setting.now).lock_word
+        (asked_in (now_of S.Scripts program.now).phase) }
+{
+    let lock = asked::<S, READINGS, HELD>(program)?;
+    Some(S::lock_word(setting, lock))
 }
 
-impl<S: OnWords<READINGS, HELD>, const READINGS: usize, const HELD: usize> Jobs
-    for Attempts<S, READINGS, HELD> {
+/// The jobs of `S`, in a room of the kind `R`, as desks run them: by attempts that make predictions. `READINGS` and `HELD` are
+/// the largest numbers of words that a script tests and of locks that it seizes.
+pub struct Attempts<S, R, const READINGS: usize, const HELD: usize> {
+    of: PhantomData<(S, R)>,
+}
+
+impl<S: InRoom<R, READINGS, HELD>, R, const READINGS: usize, const HELD: usize> Jobs
+    for Attempts<S, R, READINGS, HELD> {
     ghost use Rattle.desk_attempts.specs.Speculation.{predictions};
     ghost use Rattle.desk_attempts.specs.Of.{IsValidSpeculation, now_of};
     ghost use Rattle.attempts.specs.SystemWith.{over_with};
@@ -164,7 +177,9 @@ impl<S: OnWords<READINGS, HELD>, const READINGS: usize, const HELD: usize> Jobs
         gives_back::<S, READINGS, HELD>(program)
     }
 
-    fn outcome(program: &SpeculationOf<S, READINGS, HELD>) -> Option<(u64, S::Job, S::Reply)> {
+    fn outcome(
+        program: &SpeculationOf<S, READINGS, HELD>,
+    ) -> Option<(u64, Self::Job, Self::Reply)> {
         outcome_now::<S, READINGS, HELD>(program)
     }
 
@@ -175,7 +190,7 @@ impl<S: OnWords<READINGS, HELD>, const READINGS: usize, const HELD: usize> Jobs
         program: &SpeculationOf<S, READINGS, HELD>,
     ) -> Option<WordStep> {
         let step = next_now::<S, READINGS, HELD>(program);
-        on_word::<S, READINGS, HELD>(setting, actor, program, step)
+        on_word::<S, R, READINGS, HELD>(setting, actor, program, step)
     }
 
     #[inline(always)]
@@ -185,7 +200,7 @@ impl<S: OnWords<READINGS, HELD>, const READINGS: usize, const HELD: usize> Jobs
         program: &SpeculationOf<S, READINGS, HELD>,
     ) -> Option<WordStep> {
         let step = next_without_lock_now::<S, READINGS, HELD>(program)?;
-        on_word::<S, READINGS, HELD>(setting, actor, program, step)
+        on_word::<S, R, READINGS, HELD>(setting, actor, program, step)
     }
 
     fn lock_to_acquire(
@@ -200,13 +215,13 @@ impl<S: OnWords<READINGS, HELD>, const READINGS: usize, const HELD: usize> Jobs
         setting: &S::Setting,
         program: &'a SpeculationOf<S, READINGS, HELD>,
     ) -> &'a [Reading<usize>] {
-        may_apply::<S, READINGS, HELD>(setting, program);
+        may_apply::<S, R, READINGS, HELD>(setting, program);
         program.predictions()
     }
 
     #[inline(always)]
     fn confirm(setting: &S::Setting, program: &mut SpeculationOf<S, READINGS, HELD>, made: usize) {
-        may_apply::<S, READINGS, HELD>(setting, program);
+        may_apply::<S, R, READINGS, HELD>(setting, program);
         // Called for its contract, that each value read fits 64 bits.
         let _predictions = program.predictions();
         program.confirm(made);
@@ -219,12 +234,12 @@ impl<S: OnWords<READINGS, HELD>, const READINGS: usize, const HELD: usize> Jobs
         program: &SpeculationOf<S, READINGS, HELD>,
     ) -> Option<WordStep> {
         let step = next_past_turn_now::<S, READINGS, HELD>(program)?;
-        on_word::<S, READINGS, HELD>(setting, actor, program, step)
+        on_word::<S, R, READINGS, HELD>(setting, actor, program, step)
     }
 
     #[inline(always)]
     fn apply_past_turn(setting: &S::Setting, program: &mut SpeculationOf<S, READINGS, HELD>) {
-        may_apply::<S, READINGS, HELD>(setting, program);
+        may_apply::<S, R, READINGS, HELD>(setting, program);
         apply_past_turn_now::<S, READINGS, HELD>(program);
     }
 
@@ -233,7 +248,7 @@ impl<S: OnWords<READINGS, HELD>, const READINGS: usize, const HELD: usize> Jobs
         program: &SpeculationOf<S, READINGS, HELD>,
         found: u64,
     ) -> Range<usize> {
-        words_under_seized::<S, READINGS, HELD>(setting, program, found)
+        words_under_seized::<S, R, READINGS, HELD>(setting, program, found)
     }
 
     #[inline(always)]
@@ -244,7 +259,7 @@ impl<S: OnWords<READINGS, HELD>, const READINGS: usize, const HELD: usize> Jobs
         found: u64,
         snapshot: &mut [u64],
     ) -> Answer {
-        may_apply::<S, READINGS, HELD>(setting, program);
+        may_apply::<S, R, READINGS, HELD>(setting, program);
         apply_found::<S, READINGS, HELD>(setting, actor, program, found, snapshot)
     }
 

@@ -3,17 +3,16 @@
 //! predictions, each of which an atomic step validates or refutes.
 #![tactic(auto)]
 
+pub use in_room::InRoom;
 pub use jobs::Attempts;
 pub use now::{asked, turn};
 pub use on_groups::{Groups, InGroups, OnGroups};
-pub use on_words::OnWords;
 pub use speculation::{Speculation, SpeculationOf};
 
 mod answering;
+mod in_room;
 mod jobs;
 mod now;
 mod on_groups;
-mod on_words;
 mod predicting;
 mod speculation;
-mod word_step;

@@ -11,10 +11,9 @@ ghost use Rattle.attempts.specs.Of.{AreScripts, IsValid, attempt_of, system_of};
 
 use crate::answering::{apply_to_prediction, apply_without_prediction, drop_predictions};
 use crate::speculation::{Speculation, SpeculationOf};
-use crate::word_step::answer_in_phase;
 use attempts::{
     Scripts, apply_past_turn, begin, begin_next, is_done, next, next_past_turn, next_without_lock,
-    outcome, restart,
+    outcome, restart, step_answer,
 };
 use turns::{Act, Answer};
 
@@ -248,7 +247,7 @@ pub(crate) fn apply_found<S: Scripts<READINGS, HELD>, const READINGS: usize, con
         }
         None => {
             let phase = program.predicted.phase();
-            let answer = answer_in_phase(S::sharing(setting), actor, phase, found);
+            let answer = step_answer(S::sharing(setting), actor, phase, found);
             apply_without_prediction::<S, READINGS, HELD>(program, setting, answer, snapshot);
             answer
         }

@@ -1,13 +1,11 @@
 ghost use Rattle.std.specs.Prelude.{◌≡◌, ◌≤◌, ◌<◌, ◌*◌, ◌^◌};
-ghost use Rattle.turns.specs.Layouts.{size_of};
+ghost use Rattle.turns.specs.Layouts.{lock_word_in, size_of, turn_word_in};
 ghost use Rattle.desk_attempts.specs.Groups.{layout_of, places_of, stride_of};
 
-use crate::on_words::OnWords;
-use attempts::{Scripts, Seen};
+use crate::in_room::InRoom;
+use attempts::OnWords;
 use std::alloc::{AllocError, Global};
-use std::marker::PhantomData;
 use std::ops::Range;
-use turns::{Clock, LockSharing, Operation, Wanted};
 
 /// How many words stand on the cache lines that a processor may fetch together: two lines of 64
 /// bytes.
@@ -34,7 +32,7 @@ impl Groups {
     }
 
     /// How many words there are, with those of the locks and the turn word.
-    fn size(self) -> usize
+    pub fn size(self) -> usize
         ensures { result ≡ size_of (layout_of self) }
     {
         self.words() + self.count as usize + 1
@@ -49,6 +47,20 @@ impl Groups {
             Some(reach) => (reach / LINES * LINES) as usize,
             None => self.each as usize + 1,
         }
+    }
+
+    /// The number of a lock's own word.
+    pub fn lock_word(self, lock: u32) -> usize
+        ensures { result ≡ lock_word_in (layout_of self) lock }
+    {
+        self.words() + lock as usize
+    }
+
+    /// The number of the word on which turns are taken.
+    pub fn turn_word(self) -> usize
+        ensures { result ≡ turn_word_in (layout_of self) }
+    {
+        self.words() + self.count as usize
     }
 
     /// The place of a word in a room's table.
@@ -75,7 +87,7 @@ impl Groups {
     }
 
     /// The words of a group. Empty if there is no such group.
-    fn group(self, number: u32) -> Range<usize>
+    pub fn group(self, number: u32) -> Range<usize>
         ensures { result.end ≤ size_of (layout_of self) }
     {
         if number >= self.count {
@@ -86,9 +98,10 @@ impl Groups {
     }
 }
 
-/// What jobs need to run on words in `Groups`: less than `OnWords`, since one function says where
-/// the words are. `Attempts<InGroups<S>, ..>` are such jobs as desks run them.
-pub trait OnGroups<const READINGS: usize, const HELD: usize>: Scripts<READINGS, HELD, Lock = u32> {
+/// Jobs on words in `Groups`, in a room that keeps each group apart. An `impl` also proves that the
+/// jobs are a system of `turns` whose scripts ask for no more than `READINGS` and `HELD`
+/// (`are_scripts`).
+pub trait OnGroups<const READINGS: usize, const HELD: usize>: OnWords<READINGS, HELD, Lock = u32> {
     ghost use Rattle.std.specs.Prelude.{nat_eq};
     ghost use Rattle.attempts.specs.Validity.{AreScripts};
     ghost use Rattle.desk_attempts.specs.Groups.{IsLaidOut};
@@ -110,18 +123,6 @@ pub trait OnGroups<const READINGS: usize, const HELD: usize>: Scripts<READINGS, 
         ensures groups { result ≡ groups_of setting.now }
         ensures laid_out { IsLaidOut (Self.system setting.now) result };
 
-    /// What tells turns apart.
-    fn clock(setting: &Self::Setting) -> Clock
-        ensures { result ≡ (Self.system setting.now).clock };
-
-    /// The number of the word that an effect is made on.
-    fn effect_word(setting: &Self::Setting, effect: Self::Effect) -> usize
-        ensures { result ≡ (Self.system setting.now).effect_word effect };
-
-    /// The operation by which an effect is made on its word.
-    fn effect_operation(setting: &Self::Setting, effect: Self::Effect) -> Operation
-        ensures { result ≡ (Self.system setting.now).operation_of effect };
-
     ghost are_scripts: { (setting : Self.Setting) → Self.IsSetting setting
         → AreScripts nat_eq Self.reply_of Self.effects_of (Self.system setting)
         (Self.ResumePointIsValid setting) READINGS HELD };
@@ -131,80 +132,14 @@ pub trait OnGroups<const READINGS: usize, const HELD: usize>: Scripts<READINGS, 
         → IsLaidOut (Self.system setting) (groups_of setting) };
 }
 
-/// The scripts of `S`, on words in groups.
-pub struct InGroups<S> {
-    of: PhantomData<S>,
-}
+/// The room of jobs whose words are in groups.
+pub struct InGroups;
 
-impl<S: OnGroups<READINGS, HELD>, const READINGS: usize, const HELD: usize> Scripts<READINGS, HELD>
-    for InGroups<S> {
-    type Setting = S::Setting;
-
-    type Lock = u32;
-
-    type Job = S::Job;
-
-    type Reply = S::Reply;
-
-    type Effect = S::Effect;
-
-    type Decision = S::Decision;
-
-    type ResumePoint = S::ResumePoint;
-
-    ghost system = { S.system };
-
-    ghost reply_of = { S.reply_of };
-
-    ghost effects_of = { S.effects_of };
-
-    ghost IsSetting = { S.IsSetting };
-
-    ghost ResumePointIsValid = { S.ResumePointIsValid };
-
-    fn sharing(setting: &S::Setting) -> LockSharing {
-        S::sharing(setting)
-    }
-
-    fn first(job: &S::Job) -> u32 {
-        S::first(job)
-    }
-
-    fn start(job: &S::Job) -> S::ResumePoint {
-        S::start(job)
-    }
-
-    fn walk(
-        setting: &S::Setting,
-        job: &S::Job,
-        point: &mut S::ResumePoint,
-        seen: &mut Seen<u32, READINGS, HELD>,
-        words: &mut [u64],
-    ) -> Result<S::Decision, Wanted<u32, usize>> {
-        S::walk(setting, job, point, seen, words)
-    }
-
-    fn following(
-        setting: &S::Setting,
-        job: &S::Job,
-        point: &S::ResumePoint,
-        seen: &Seen<u32, READINGS, HELD>,
-        word: usize,
-    ) -> Option<usize> {
-        S::following(setting, job, point, seen, word)
-    }
-
-    fn reply(decision: &S::Decision) -> S::Reply {
-        S::reply(decision)
-    }
-
-    fn effect(decision: &S::Decision, place: usize) -> Option<S::Effect> {
-        S::effect(decision, place)
-    }
-}
-
-impl<S: OnGroups<READINGS, HELD>, const READINGS: usize, const HELD: usize> OnWords<READINGS, HELD>
-    for InGroups<S> {
+impl<S: OnGroups<READINGS, HELD>, const READINGS: usize, const HELD: usize> InRoom<
+    InGroups,
+    READINGS,
+    HELD,
+> for S {
     ghost use Rattle.desk_attempts.specs.Groups.{places_of};
     ghost use Rattle.desk_attempts.specs.GroupPlaces.{places_of_size};
 
@@ -218,18 +153,6 @@ impl<S: OnGroups<READINGS, HELD>, const READINGS: usize, const HELD: usize> OnWo
         S::keep(setting)
     }
 
-    fn effect_word(setting: &S::Setting, effect: S::Effect) -> usize {
-        S::effect_word(setting, effect)
-    }
-
-    fn effect_operation(setting: &S::Setting, effect: S::Effect) -> Operation {
-        S::effect_operation(setting, effect)
-    }
-
-    fn size(setting: &S::Setting) -> usize {
-        S::groups(setting).size()
-    }
-
     fn place(setting: &S::Setting, word: usize) -> usize {
         S::groups(setting).place(word)
     }
@@ -240,18 +163,6 @@ impl<S: OnGroups<READINGS, HELD>, const READINGS: usize, const HELD: usize> OnWo
 
     fn initial(alloc: Global, setting: &S::Setting) -> Result<Vec<u64>, AllocError> {
         vec![in alloc; 0; S::groups(setting).size()]
-    }
-
-    fn turn_word(setting: &S::Setting) -> usize {
-        S::groups(setting).size() - 1
-    }
-
-    fn clock(setting: &S::Setting) -> Clock {
-        S::clock(setting)
-    }
-
-    fn lock_word(setting: &S::Setting, lock: u32) -> usize {
-        S::groups(setting).words() + lock as usize
     }
 
     fn words_under(setting: &S::Setting, lock: u32) -> Range<usize> {

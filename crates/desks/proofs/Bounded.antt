@@ -1,25 +1,15 @@
 -- chains of a desk's steps are bounded
-use Rattle.std.proofs.Common.{◌≡◌, ◌≢◌, ◌⊎◌, ℕ, zero, suc, ◌+◌, ◌≤◌, ◌<◌, true, List, [], ◌∷◌, length, inl, inr, refl, sym, ap, ◌∙◌, subst, arith}
+use Rattle.std.proofs.Common.{◌≡◌, ◌≢◌, ◌⊎◌, ℕ, zero, suc, ◌+◌, ◌≤◌, ◌<◌, true, List, [], ◌∷◌, length, inl, inr, refl, sym, ap, ◌∙◌, subst, arith, Bool, false}
+use Rattle.std.proofs.Common.{None}
 use mathlib.Core.Option.{some}
 use lib.ListN.{get_elem?}
-use Rattle.turns.specs.System.{System}
-use Rattle.turns.specs.Attempt.{AttemptOf, IsAnswer, act, act_in, answer_to, asked_in, change, next}
-use Rattle.std.specs.Prelude.{Bool, false, None}
-use Rattle.turns.specs.declared.act.Act.{Act}
-use Rattle.turns.specs.declared.act.Act.TheVariants.{Finished, Request, Seize, Withdraw, Free, Test, Turn as TakesTurn, Make}
-use Rattle.turns.specs.declared.answer.Answer.{Answer}
-use Rattle.turns.specs.declared.answer.Answer.TheVariants.{Asked, Seized, Value, Turn, Done}
-use Rattle.turns.specs.World.{World, ActorOf, RecordOf, Idle, Does, place}
-use Rattle.turns.specs.Law.{IsAvailable, Lawful}
-use Rattle.turns.specs.Runs.{is_available, is_finished}
-use Rattle.turns.specs.Bounds.{AreSteady, IsSteady}
-use Rattle.turns.specs.declared.phase.Phase.{Phase}
+use Rattle.turns.specs.{System.System, Attempt.{AttemptOf, IsAnswer, act, act_in, answer_to, asked_in, change, next}, declared.act.Act.Act}
+use Rattle.turns.specs.declared.{act.Act.TheVariants.{Finished, Request, Seize, Withdraw, Free, Test, Turn as TakesTurn, Make}, answer.Answer.Answer}
+use Rattle.turns.specs.declared.{answer.Answer.TheVariants.{Asked, Seized, Value, Turn, Done}, phase.Phase.Phase}
 use Rattle.turns.specs.declared.phase.Phase.TheVariants.{Requests, Seizes, Tests, Turns, Withdraws, GivesBack, Operates}
-use Rattle.turns.proofs.ExactWords.{answers_fit, closing_done, free_done, rest_or_not}
-use Rattle.turns.proofs.Settings.{does_one}
-use Rattle.desks.specs.Chains.{MadeSteadily}
-use Rattle.desks.specs.Desks.{HasMade, asked_by}
-use Rattle.desks.specs.Kept.{number_found}
+use Rattle.turns.specs.{World.{World, ActorOf, RecordOf, Idle, Does, place}, Law.{IsAvailable, Lawful}, Runs.{is_available, is_finished}}
+use Rattle.turns.{specs.Bounds.{AreSteady, IsSteady}, proofs.{ExactWords.{answers_fit, closing_done, free_done, rest_or_not}, Settings.does_one}}
+use Rattle.desks.specs.{Chains.MadeSteadily, Desks.{HasMade, asked_by}, Kept.number_found}
 
 -- each step may have a steady answer
 steady_request : (O : System) (asks : Bool) (lock : O.Lock) → O.sharing.asks ≡ asks

@@ -1,21 +1,9 @@
 -- a load of a lock's own word tells who holds the lock
-use Rattle.std.proofs.Common.{◌≡◌, ◌↔◌, ℕ, zero, suc, List, slice_index, set, sym, refl, ap, inl, subst, ◌∙◌}
-use Rattle.std.specs.Prelude.{Some}
-use Rattle.atomic_table.specs.Table.{Allows, Me, keeps}
-use Rattle.atomic_table.proofs.Lists.{set_again, set_here}
-use Rattle.turns.specs.Among.{IsIn}
-use Rattle.turns.specs.Sharing.{actor_of_holder, held_by}
-use Rattle.turns.specs.System.{System}
-use Rattle.turns.specs.World.{World, ActorOf}
-use Rattle.turns.specs.Law.{Holds, Lawful, holder_at}
-use Rattle.turns.proofs.Lists.{set_idle}
-use Rattle.desks.specs.Desks.{IsSeated}
-use Rattle.desks.specs.Holders.{HasLoaded, WasHeldBy}
-use Rattle.desks.specs.Kept.{Fits, IsKept, KnownOf, PartOf}
-use Rattle.desks.specs.Parts.{seen_in}
-use Rattle.desks.specs.Rule.{RuleOfWords}
-use Rattle.desks.proofs.Lookups.{there_below}
-use Rattle.desks.proofs.Moving.{length_set}
+use Rattle.std.proofs.Common.{◌≡◌, ◌↔◌, ℕ, zero, suc, List, slice_index, set, sym, refl, ap, inl, subst, ◌∙◌, Some}
+use Rattle.{atomic_table.{specs.Table.{Allows, Me, keeps}, proofs.Lists.{set_again, set_here}}, turns.specs.{Among.IsIn, Sharing.{actor_of_holder, held_by}}}
+use Rattle.turns.{specs.{System.System, World.{World, ActorOf}, Law.{Holds, Lawful, holder_at}}, proofs.Lists.set_idle}
+use Rattle.desks.specs.{Desks.IsSeated, Holders.{HasLoaded, WasHeldBy}, Kept.{Fits, IsKept, KnownOf, PartOf}, Parts.seen_in, Rule.RuleOfWords}
+use Rattle.desks.proofs.{Lookups.there_below, Moving.length_set}
 
 named_is : (n k : ℕ) → actor_of_holder n ≡ Some k → n ≡ suc k
 named_is zero k e = absurd cc

@@ -1,20 +1,11 @@
 -- whatever a desk does with its job, it is the job that was assigned to it
-use Rattle.std.proofs.Common.{◌≡◌, ℕ, zero, suc, List, [], ◌∷◌, ◌++◌, refl, sym, ◌∙◌, ap}
-use Rattle.std.specs.Prelude.{Bool, true, false, Option, Some, Result, Ok, Err, if◌then◌else◌}
-use Rattle.turns.specs.System.{System}
-use Rattle.turns.specs.Attempt.{AttemptOf, changed, denied, forgotten, giving_back, goes_on, operated, rest_of}
-use Rattle.turns.specs.World.{ActorOf, Idle, Does, RecordOf}
-use Rattle.turns.specs.declared.answer.Answer.{Answer}
-use Rattle.turns.specs.declared.answer.Answer.TheVariants.{Asked, Seized, Held, Preferred, Again, Value, Turn as TurnNumber, Done}
-use Rattle.turns.specs.declared.phase.Phase.{Phase}
-use Rattle.turns.specs.declared.phase.Phase.TheVariants.{Requests, Seizes, Tests, Turns, Withdraws, GivesBack, Operates}
-use Rattle.turns.specs.declared.wanted.Wanted.{Wanted}
-use Rattle.turns.specs.declared.wanted.Wanted.TheVariants.{Seize, Test}
+use Rattle.std.proofs.Common.{◌≡◌, ℕ, zero, suc, List, [], ◌∷◌, ◌++◌, refl, sym, ◌∙◌, ap, Bool, true, false, Option, Some, Result, Ok, Err, if◌then◌else◌}
+use Rattle.turns.specs.{System.System, Attempt.{AttemptOf, changed, denied, forgotten, giving_back, goes_on, operated, rest_of}, World.{ActorOf, Idle, Does}}
+use Rattle.turns.specs.{World.RecordOf, declared.answer.Answer.{Answer, TheVariants.{Asked, Seized, Held, Preferred, Again, Value, Turn as TurnNumber, Done}}}
+use Rattle.turns.specs.declared.{phase.Phase.{Phase, TheVariants.{Requests, Seizes, Tests, Turns, Withdraws, GivesBack, Operates}}, wanted.Wanted.Wanted}
+use Rattle.turns.specs.{declared.wanted.Wanted.TheVariants.{Seize, Test}, Outcomes.given_back}
+use Rattle.desks.specs.{declared.progress.JobRecord.JobRecord, Desks.{HasAdvanced, HasGivenBack, HasMade, HasStepped}, Reports.job_of}
 use Rattle.desks.specs.declared.progress.Progress.TheVariants as progress
-use Rattle.desks.specs.declared.progress.JobRecord.{JobRecord}
-use Rattle.desks.specs.Desks.{HasAdvanced, HasGivenBack, HasMade, HasStepped}
-use Rattle.turns.specs.Outcomes.{begun_anew}
-use Rattle.desks.specs.Reports.{job_of}
 
 module _ (O : System) where
   open O use {Lock, Job, Effect, Decision}
@@ -52,31 +43,35 @@ module _ (O : System) where
   changed_job a (Operates turn) Done = operated_job a a.effects
   changed_job a _ _ = refl
 
-  begun_job : (a : AttemptOf O) (phase : Phase Lock ℕ) → (begun_anew O phase a).job ≡ a.job
-  begun_job a (Requests lock) = refl
-  begun_job a (Seizes lock expected) = refl
-  begun_job a (Tests word) = refl
-  begun_job a Turns = refl
-  begun_job a (Withdraws lock) = refl
-  begun_job a GivesBack = refl
-  begun_job a (Operates turn) = refl
+  given_back_job : (a : AttemptOf O) (phase : Phase Lock ℕ) → (given_back O phase a).job ≡ a.job
+  given_back_job a (Requests lock) = refl
+  given_back_job a (Seizes lock expected) = refl
+  given_back_job a (Tests word) = refl
+  given_back_job a Turns = refl
+  given_back_job a (Withdraws lock) = refl
+  given_back_job a GivesBack = refl
+  given_back_job a (Operates turn) = refl
 
   abbrev numbered : ℕ → Job → Option (ℕ × Job)
   numbered number job = Some (number, job)
 
-  pub step_job : (k : ℕ) (before after : ActorOf O) (seen seen_after : List (RecordOf O)) (answer : Answer) → HasStepped O k before after seen seen_after answer → job_of O after ≡ job_of O before
+  pub step_job : (k : ℕ) (before after : ActorOf O) (seen seen_after : List (RecordOf O)) (answer : Answer) → HasStepped O k before after seen seen_after answer
+      → job_of O after ≡ job_of O before
   step_job k before after seen seen_after answer step =
       ap (job_of O) step.after_is ∙ ap (numbered step.number) (changed_job step.attempt step.attempt.phase _) ∙ ap (job_of O) (sym step.before_is)
 
-  pub steps_job : (k count : ℕ) (before after : ActorOf O) (seen seen_after : List (RecordOf O)) → HasMade O k count before after seen seen_after → job_of O after ≡ job_of O before
+  pub steps_job : (k count : ℕ) (before after : ActorOf O) (seen seen_after : List (RecordOf O)) → HasMade O k count before after seen seen_after
+      → job_of O after ≡ job_of O before
   steps_job k zero before after seen seen_after same = ap (job_of O) same.0
   steps_job k (suc count) before after seen seen_after (between, seen_between, answer, made, asks, step) =
       step_job k between after seen_between seen_after answer step ∙ steps_job k count before between seen seen_between made
 
-  pub back_job : (k : ℕ) (before after : ActorOf O) (seen seen_after : List (RecordOf O)) → HasGivenBack O k before after seen seen_after → job_of O after ≡ job_of O before
+  pub back_job : (k : ℕ) (before after : ActorOf O) (seen seen_after : List (RecordOf O)) → HasGivenBack O k before after seen seen_after
+      → job_of O after ≡ job_of O before
   back_job k Idle after seen seen_after same = ap (job_of O) same.0
-  back_job k (Does number a) after seen seen_after gave = ap (job_of O) gave.after_is ∙ ap (numbered number) (begun_job a a.phase)
+  back_job k (Does number a) after seen seen_after gave = ap (job_of O) gave.after_is ∙ ap (numbered number) (given_back_job a a.phase)
 
-  pub told_job : (k : ℕ) (before after : ActorOf O) (seen seen_after : List (RecordOf O)) (reported : JobRecord O.Job O.Reply) → HasAdvanced O k before after seen seen_after (progress.Finished reported) → job_of O before ≡ Some (reported.number, reported.job)
+  pub told_job : (k : ℕ) (before after : ActorOf O) (seen seen_after : List (RecordOf O)) (reported : JobRecord O.Job O.Reply)
+      → HasAdvanced O k before after seen seen_after (progress.Finished reported) → job_of O before ≡ Some (reported.number, reported.job)
   told_job k before after seen seen_after reported (answer, step, free, is) =
       sym (step_job k before after seen seen_after answer step) ∙ ap (job_of O) is.after_is ∙ ap (numbered reported.number) is.job

@@ -1,10 +1,7 @@
 -- Tickets that are cut off, and tickets that come back one after another.
 use Rattle.std.proofs.Common.{◌≡◌, ℕ, zero, suc, ◌<◌, ◌≤◌, List, [], ◌∷◌, ◌++◌, refl, sym, ap, ◌∙◌, subst, arith, sum_by, flat_map, length, All, replicate}
-use Rattle.std.proofs.lemmas.List.{append_assoc, append-nil}
-use Rattle.std.proofs.lemmas.List.Folds.{sum_by-replicate}
-use Rattle.std.proofs.lemmas.List.Sums.{sum_by-cons, sum_by_push}
-use Rattle.std.proofs.lemmas.List.Elements.{All-head, All-tail}
-use Rattle.std.proofs.lemmas.Grind.{flat_map-append}
+use Rattle.std.proofs.Common.{append_assoc, append-nil}
+use Rattle.std.proofs.lemmas.{List.{Folds.sum_by-replicate, Sums.{sum_by-cons, sum_by_push}, Elements.{All-head, All-tail}}, Grind.flat_map-append}
 use Rattle.fair_queue.specs.Tickets.{IsWhole, QueueName, TicketView, new_ticket, with_fewer_parts, ticket_of_all, ticket_of_both}
 
 module _ {X : Type 0} where

@@ -1,18 +1,11 @@
 -- Each move keeps the rule of the queue.
-use Rattle.std.proofs.Common.{◌≡◌, ℕ, ◌+◌, ◌-◌, ◌<◌, List, [], ◌∷◌, ◌++◌, set, sym, refl, ap, ◌∙◌, ⊎_elim, arith, sum_by, flat_map, length}
+use Rattle.std.proofs.Common.{◌≡◌, ℕ, ◌+◌, ◌-◌, ◌<◌, List, [], ◌∷◌, ◌++◌, set, sym, refl, ap, ◌∙◌, ⊎_elim, arith, sum_by, flat_map, length, length-append}
 use mathlib.Core.Option.{some, some-ne-none}
 use lib.ListN.{get_elem?}
-use Rattle.std.proofs.lemmas.List.{length-append}
-use Rattle.std.proofs.lemmas.List.Sums.{sum_by-cons, sum_by-append, sum_by_push}
-use Rattle.std.proofs.lemmas.List.Elements.{All-nil, All-push, All-head, All-tail}
-use Rattle.crossbeam_channel.specs.Fifo.{Pushes, Pops, Forks, Merges, Learns, Held}
-use Rattle.atomic_table.proofs.Lists.{at_set}
-use Rattle.fair_queue.specs.declared.rule.Hand.{Hand}
-use Rattle.fair_queue.specs.Items.{SameItems}
-use Rattle.fair_queue.specs.Parts.{all_parts}
-use Rattle.fair_queue.specs.Rule.{hand, Balanced, Knows}
-use Rattle.fair_queue.proofs.Totals.{total_set, alone_total, idle_set, idle_push}
-use Rattle.fair_queue.proofs.Weights.{SameItems-length, sum_by-flat_map}
+use Rattle.std.proofs.lemmas.List.{Sums.{sum_by-cons, sum_by-append, sum_by_push}, Elements.{All-nil, All-push, All-head, All-tail}}
+use Rattle.{crossbeam_channel.specs.Fifo.{Pushes, Pops, Forks, Merges, Learns, Held}, atomic_table.proofs.Lists.at_set}
+use Rattle.fair_queue.specs.{declared.rule.Hand.Hand, Items.SameItems, Parts.all_parts, Rule.{hand, Balanced, Knows}}
+use Rattle.fair_queue.proofs.{Totals.{total_set, alone_total, idle_set, idle_push}, Weights.{SameItems-length, sum_by-flat_map}}
 
 -- what passes put and took, by weights
 module _ {X : Type 0} (h : X → ℕ) where

@@ -2,10 +2,7 @@
 use Rattle.std.proofs.Common.{◌≡◌, ◌≢◌, ℕ, zero, suc, ◌+◌, ◌<◌, List, [], ◌∷◌, ◌++◌, set, sym, refl, ap, subst, ⊎_elim, arith, sum_by}
 use mathlib.Core.Option.{some, some-injective, some-ne-none}
 use lib.ListN.{get_elem?}
-use Rattle.std.proofs.lemmas.List.Sums.{sum_by-cons}
-use Rattle.atomic_table.proofs.Lists.{at_set, at_snoc}
-use Rattle.fair_queue.specs.declared.rule.Hand.{Hand}
-use Rattle.fair_queue.specs.Rule.{IdleIsEmpty}
+use Rattle.{std.proofs.lemmas.List.Sums.sum_by-cons, atomic_table.proofs.Lists.{at_set, at_snoc}, fair_queue.specs.{declared.rule.Hand.Hand, Rule.IdleIsEmpty}}
 
 module _ {X : Type 0} where
   -- the total after a change of one pass

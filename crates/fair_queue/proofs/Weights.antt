@@ -1,13 +1,9 @@
 -- Lists with the same items: what that says of lengths, tests, appends and permutations.
-use Rattle.std.proofs.Common.{◌≡◌, ◌&&◌, ℕ, ◌<◌, List, [], ◌∷◌, ◌++◌, Bool, true, false, nat_eq, sym, refl, ap, ◌∙◌, subst, arith, sum_by, length, flat_map, map, cond}
-use Rattle.std.proofs.lemmas.Bool.{eqb-true, eq-eqb, true≢false}
-use Rattle.std.proofs.Math.Nat.{lt_irrefl}
-use Rattle.std.specs.Cmp.Derive.{both_true}
+use Rattle.std.proofs.Common.{◌≡◌, ◌&&◌, ℕ, ◌<◌, List, [], ◌∷◌, ◌++◌, Bool, true, false, nat_eq, sym, refl, ap, ◌∙◌, subst, arith, sum_by, length, flat_map}
+use Rattle.std.proofs.Common.{map, cond, eqb-true, eq-eqb, true≢false, lt_irrefl, IsPermutation}
+use Rattle.std.{specs.Cmp.Derive.both_true, proofs.lemmas.List.{Sums.{sum_by-cons, sum_by-append}, Sorted.{IsPermutation-refl, IsPermutation-sym}}}
+use Rattle.{std.proofs.lemmas.List.Sorted.{IsPermutation-trans, IsPermutation-cons, IsPermutation-middle}, fair_queue.specs.Items.SameItems}
 use base.Stored.{Gv, gnil, gnum, gcons, Coded}
-use Rattle.std.proofs.lemmas.List.Sums.{sum_by-cons, sum_by-append}
-use Rattle.std.proofs.lemmas.List.Sorted.{IsPermutation-refl, IsPermutation-sym, IsPermutation-trans, IsPermutation-cons, IsPermutation-middle}
-use Rattle.std.specs.Prelude.{IsPermutation}
-use Rattle.fair_queue.specs.Items.{SameItems}
 
 module _ {X : Type 0} where
   -- the weight of lists that are appended one after another

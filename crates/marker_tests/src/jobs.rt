@@ -5,11 +5,13 @@ ghost use Rattle.xbar_equip.specs.Word.{word_count};
 ghost use Rattle.xbar_jobs.specs.Standing.{IsValid};
 
 use crate::fixtures::{WITH_REGISTER, Words, check_words, example, job};
+use attempts::{step_answer, step_operation};
 use std::alloc::Global;
 use std::process::Abort;
 use test_tools::check_eq;
+use turns::{Act, LockSharing, Phase};
 use xbar_equip::{Conn, WORD_COUNT, WordNo};
-use xbar_jobs::{Answer, Program, Step};
+use xbar_jobs::{Answer, HELD, OfficeEffect, Offices, Operation, Program, READINGS, Step};
 use xbar_plan::Plan;
 
 mod denied;
@@ -20,55 +22,80 @@ const LINES: Conn = Conn::Llf(3);
 
 const GROUP: Conn = Conn::Group(0);
 
+/// What a marker does in one step.
+type OfficeAct = Act<Conn, OfficeEffect>;
+
 /// A marker, its step, the value that it finds in its word, the value that it leaves there, and
 /// the answer.
-const STEPS: [(u32, Step, u64, u64, Answer); 20] = [
+const STEPS: [(u32, OfficeAct, u64, u64, Answer); 20] = [
     // The lower marker is preferred, seizes at its second try, and holds the connector.
-    (0, Step::Request(LINES), 0, 256, Answer::Asked(256)),
-    (1, Step::Request(LINES), 256, 768, Answer::Preferred(0)),
-    (0, Step::Seize(LINES, 256), 768, 768, Answer::Again(768)),
-    (0, Step::Seize(LINES, 768), 768, 513, Answer::Seized),
-    (1, Step::Withdraw(LINES), 513, 1, Answer::Done),
-    (1, Step::Request(LINES), 1, 513, Answer::Held(0)),
+    (0, Act::Request(LINES), 0, 256, Answer::Asked(256)),
+    (1, Act::Request(LINES), 256, 768, Answer::Preferred(0)),
+    (0, Act::Seize(LINES, 256), 768, 768, Answer::Again(768)),
+    (0, Act::Seize(LINES, 768), 768, 513, Answer::Seized),
+    (1, Act::Withdraw(LINES), 513, 1, Answer::Done),
+    (1, Act::Request(LINES), 1, 513, Answer::Held(0)),
     // The lower marker is preferred though it comes later.
-    (1, Step::Request(LINES), 0, 512, Answer::Asked(512)),
-    (0, Step::Request(LINES), 512, 768, Answer::Asked(768)),
-    (1, Step::Seize(LINES, 512), 768, 768, Answer::Preferred(0)),
+    (1, Act::Request(LINES), 0, 512, Answer::Asked(512)),
+    (0, Act::Request(LINES), 512, 768, Answer::Asked(768)),
+    (1, Act::Seize(LINES, 512), 768, 768, Answer::Preferred(0)),
     // Marker 7 holds a connector.
-    (1, Step::Request(GROUP), 8, 520, Answer::Held(7)),
-    (1, Step::Withdraw(GROUP), 520, 8, Answer::Done),
-    (1, Step::Free(LINES), 2, 0, Answer::Done),
+    (1, Act::Request(GROUP), 8, 520, Answer::Held(7)),
+    (1, Act::Withdraw(GROUP), 520, 8, Answer::Done),
+    (1, Act::Free(LINES), 2, 0, Answer::Done),
     // The last marker.
-    (47, Step::Request(LINES), 0, 1 << 55, Answer::Asked(1 << 55)),
-    (47, Step::Seize(LINES, 1 << 55), 1 << 55, 48, Answer::Seized),
-    (47, Step::Seize(LINES, 1 << 55), 8, 8, Answer::Held(7)),
-    (47, Step::Withdraw(LINES), (1 << 55) + 1, 1, Answer::Done),
-    (47, Step::Free(LINES), 304, 256, Answer::Done),
+    (47, Act::Request(LINES), 0, 1 << 55, Answer::Asked(1 << 55)),
+    (47, Act::Seize(LINES, 1 << 55), 1 << 55, 48, Answer::Seized),
+    (47, Act::Seize(LINES, 1 << 55), 8, 8, Answer::Held(7)),
+    (47, Act::Withdraw(LINES), (1 << 55) + 1, 1, Answer::Done),
+    (47, Act::Free(LINES), 304, 256, Answer::Done),
     // The turn number wraps around.
-    (47, Step::Turn, 5, 6, Answer::Turn(5)),
-    (47, Step::Turn, u64::MAX, 0, Answer::Turn(u64::MAX)),
-    (47, Step::Finished, 7, 7, Answer::Done),
+    (47, Act::Turn, 5, 6, Answer::Turn(5)),
+    (47, Act::Turn, u64::MAX, 0, Answer::Turn(u64::MAX)),
+    (47, Act::Finished, 7, 7, Answer::Done),
 ];
 
+/// The phase of an attempt that makes this step next.
+fn phase_of(step: OfficeAct) -> Phase<Conn, usize> {
+    match step {
+        Act::Request(conn) => Phase::Requests(conn),
+        Act::Seize(conn, expected) => Phase::Seizes(conn, expected),
+        Act::Withdraw(conn) => Phase::Withdraws(conn),
+        Act::Test(word) => Phase::Tests(word),
+        Act::Turn => Phase::Turns,
+        Act::Free(_) | Act::Make(_) | Act::Finished => Phase::GivesBack,
+    }
+}
+
 /// Checks what a step leaves in its word, and its answer.
-fn check_step(rt: &impl Abort, marker: u32, step: Step, found: u64, left: u64, answer: Answer) {
+fn check_step(
+    rt: &impl Abort,
+    plan: &Plan,
+    marker: u32,
+    step: OfficeAct,
+    found: u64,
+    left: u64,
+    answer: Answer,
+) {
     assert!(rt; marker < 48);
+    let operation = step_operation::<Offices, READINGS, HELD>(plan, marker, step);
     let made = (
-        step.operation(marker).apply(found),
-        step.answer(marker, found),
+        operation.apply(found),
+        step_answer(LockSharing::Preferring, marker, phase_of(step), found),
     );
     check_eq!(rt; made, (left, answer), "{step:?} on {found}");
 }
 
 #[test]
 fn steps_are_operations_on_words(rt: HostRuntime) {
+    let plan = example(&rt, rt.alloc());
     for (marker, step, found, left, answer) in STEPS {
-        check_step(&rt, marker, step, found, left, answer);
+        check_step(&rt, &plan, marker, step, found, left, answer);
     }
-    let word = WordNo::new(60);
-    check_step(&rt, 47, Step::Test(word), 22, 22, Answer::Value(22));
-    check_step(&rt, 47, Step::Close(word, 22), 256, 278, Answer::Done);
-    check_step(&rt, 47, Step::Open(word, 240), 278, 16, Answer::Done);
+    check_step(&rt, &plan, 47, Act::Test(60), 22, 22, Answer::Value(22));
+    // A close sets bits, and an open keeps bits.
+    check_eq!(rt; Operation::Or(22).apply(256), 278);
+    check_eq!(rt; Operation::And(240).apply(278), 16);
 }
 
 /// A dial tone job that has made no step.
@@ -79,7 +106,7 @@ fn begin(rt: &impl Abort, plan: &Plan) -> Program
     Program::new(job(rt, "D 3041"))
 }
 
-/// Makes `count` steps on the words, and passes each answer to the program.
+/// Makes `count` steps on the words, as far as there are any.
 fn steps(program: &mut Program, plan: &Plan, words: &mut [u64], count: usize)
     requires plan { IsValid plan.now program.old.attempt }
     requires words { length words.old ≡ word_count }
@@ -87,10 +114,8 @@ fn steps(program: &mut Program, plan: &Plan, words: &mut [u64], count: usize)
     ensures words { length words.new ≡ word_count }
 {
     for _made in 0..count {
-        let step = program.next();
-        let answer = step.make(0, words);
-        if step != Step::Finished {
-            program.take(plan, answer);
+        if !program.is_done() {
+            let _answer = program.step(plan, 0, words);
         }
     }
 }

@@ -4,59 +4,27 @@ use std::alloc::Global;
 use std::process::Abort;
 use std::test::Fail;
 use svg::{
-    Bend, Point, Shape, add_circle, add_drawing, add_escaped, add_group, add_group_end,
-    add_named_group,
+    Bend, Point, Shape, add_drawing, add_escaped, add_group, add_group_end, add_named_group,
+    add_shape,
 };
 use test_tools::check_eq;
 
 const SHAPES: &[Shape<'static>] = &[
-    Shape::Rectangle {
-        corner: Point { x: 110, y: 46 },
-        width: 330,
-        height: 356,
-        class: "frame",
-    },
-    Shape::Line {
-        from: Point { x: 200, y: 104 },
-        to: Point { x: 350, y: 0 },
-        class: "idle",
-    },
-    Shape::Circle {
-        center: Point { x: 233, y: 450 },
-        radius: 4,
-        class: "point",
-    },
-    Shape::Text {
-        at: Point { x: 65535, y: 64 },
-        class: "small middle",
-        content: "R&D <1>",
-    },
-    Shape::Text {
-        at: Point { x: 4, y: 5 },
-        class: "b",
-        content: "",
-    },
-    Shape::Trail {
-        from: Point { x: 1, y: 2 },
-        bends: &[
-            Bend::To(Point { x: 30, y: 2 }),
-            Bend::Curve(
-                Point { x: 40, y: 2 },
-                Point { x: 40, y: 65535 },
-                Point { x: 50, y: 9 },
-            ),
+    Shape::Rectangle(Point(110, 46), 330, 356, "frame"),
+    Shape::Line(Point(200, 104), Point(350, 0), "idle"),
+    Shape::Circle(Point(233, 450), 4, "point"),
+    Shape::Text(Point(65535, 64), "small middle", "R&D <1>"),
+    Shape::Text(Point(4, 5), "b", ""),
+    Shape::Trail(
+        Point(1, 2),
+        &[
+            Bend::To(Point(30, 2)),
+            Bend::Curve(Point(40, 2), Point(40, 65535), Point(50, 9)),
         ],
-        class: "call edge",
-    },
-    Shape::Trail {
-        from: Point { x: 7, y: 0 },
-        bends: &[],
-        class: "c",
-    },
-    Shape::Copy {
-        at: Point { x: 210, y: 62 },
-        name: "a\"b",
-    },
+        "call edge",
+    ),
+    Shape::Trail(Point(7, 0), &[], "c"),
+    Shape::Copy(Point(210, 62), "a\"b"),
 ];
 
 const DRAWING: &str =
@@ -114,7 +82,7 @@ const GROUP: &str = r#"<g transform="translate(560 18446744073709551616)">
 fn groups_are_moved_and_named(rt: HostRuntime) -> Result<(), Fail> {
     let mut text = String::new(rt.alloc());
     add_group(&mut text, 560, 18446744073709551616)?;
-    add_circle(&mut text, Point::new(1, 2), 3, "a")?;
+    add_shape(&mut text, &Shape::Circle(Point(1, 2), 3, "a"))?;
     add_group_end(&mut text)?;
     add_named_group(&mut text, "r&d")?;
     add_group_end(&mut text)?;

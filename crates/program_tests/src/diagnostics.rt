@@ -1,12 +1,12 @@
-//! Diagnostics of bytes that aren't text, of long lists and of faults that aren't there, and when
-//! memory is refused.
+//! Diagnostics of bytes that aren't text, of long lists and of faults of traffic that aren't there,
+//! and when memory is refused.
 
 use std::alloc::{AllocError, Global};
 use std::fmt::Display;
 use std::process::Abort;
 use std::test::Fail;
 use test_tools::check_eq;
-use xbar_diagnostics::{plan_diagnostic, traffic_diagnostic};
+use xbar_diagnostics::{PlanDiagnostic, traffic_diagnostic};
 use xbar_plan::{Plan, PlanFault};
 use xbar_plan_text::PlanText;
 use xbar_traffic::{MarkerFault, Mode, RowFault, Traffic, TrafficFault};
@@ -25,19 +25,16 @@ fn told<S: Display + Drop>(rt: &impl Abort, alloc: Global, diagnostic: Option<S>
     text.expect(rt, "there is memory for a sentence")
 }
 
-/// Checks the sentence on this fault of a plan's text.
-fn check_sentence(rt: &impl Abort, alloc: Global, text: &[u8], fault: PlanFault, wanted: &str) {
-    let diagnostic = plan_diagnostic(alloc, text, fault).expect(
-        rt,
-        "there is memory for a diagnostic",
-    );
-    check_eq!(rt; told(rt, alloc, diagnostic).as_str(), wanted, fault);
+/// The diagnostic of a plan that is refused.
+fn plan_diagnostic(alloc: Global, text: &[u8]) -> Option<PlanDiagnostic> {
+    let refusal = Plan::parse(alloc, text).err()?;
+    Some(PlanDiagnostic { refusal })
 }
 
 /// Checks that a plan is refused for this fault, with this sentence.
 fn check_refused(rt: &impl Abort, alloc: Global, text: &[u8], fault: PlanFault, wanted: &str) {
     check_eq!(rt; Plan::read(alloc, text).err(), Some(fault), wanted);
-    check_sentence(rt, alloc, text, fault, wanted);
+    check_eq!(rt; told(rt, alloc, plan_diagnostic(alloc, text)).as_str(), wanted, fault);
 }
 
 /// Bytes that aren't text, and the sentence on them.
@@ -96,35 +93,6 @@ fn sentences_about_plans(rt: HostRuntime) -> Result<(), Fail> {
         check_refused(&rt, rt.alloc(), text.as_bytes(), PlanFault::Limit, wanted);
     }
     Ok(())
-}
-
-/// A plan with a register group and without a fault.
-const RIGHT_PLAN: &[u8] =
-    b"version = 1\ngroups = ['REG register 417']\nnumbers = []\ncodes = []\nfaults = []\n";
-
-const ALL_FAULTS: &[PlanFault] = &[
-    PlanFault::NotToml,
-    PlanFault::Version,
-    PlanFault::KeyMissing,
-    PlanFault::NotTexts,
-    PlanFault::Malformed,
-    PlanFault::Limit,
-    PlanFault::GroupTwice,
-    PlanFault::RegisterGroups,
-    PlanFault::PlaceTwice,
-    PlanFault::PairApart,
-    PlanFault::NumberTwice,
-    PlanFault::CodeTwice,
-    PlanFault::UnknownGroup,
-    PlanFault::MixedRoute,
-    PlanFault::Memory,
-];
-
-#[test]
-fn no_diagnostic_is_told_where_its_fault_is_not(rt: HostRuntime) {
-    for fault in ALL_FAULTS {
-        check_sentence(&rt, rt.alloc(), RIGHT_PLAN, *fault, NO_DIAGNOSTIC);
-    }
 }
 
 /// Checks the sentence on this fault of a replay's rows. It may be `NO_DIAGNOSTIC`.

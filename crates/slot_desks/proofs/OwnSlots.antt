@@ -1,19 +1,9 @@
 -- a desk that frees only slots that it has
-use Rattle.std.proofs.Common.{◌≡◌, ℕ, Bool, true, false, List, [], ◌∷◌, ◌++◌, map, inl, inr, refl, sym, ◌∙◌, ap, subst, append_assoc}
-use Rattle.std.specs.Prelude.{◌==◌, Err, IfNone, IfOk, IfSome, None, Ok, Option, Result, Some, if◌then◌else◌, is_some, option_map, slice_get}
-use Rattle.std.proofs.lemmas.Bool.{eq-eqb}
-use Rattle.std.proofs.lemmas.Option.{slice_get-map}
-use Rattle.desks.specs.Desks.{as_record}
-use Rattle.desks.specs.Parts.{Begins}
-use Rattle.desks.specs.declared.progress.JobRecord.{JobRecord}
-use Rattle.slots.specs.System.{slots}
-use Rattle.slots.specs.declared.job.Job.{Job}
-use Rattle.slots.specs.declared.job.Job.TheVariants.{Take, TakeBoth, Give}
-use Rattle.slot_desks.specs.Driving.{AreNumbered, LogsGiving, LogsJob, jobs}
-use Rattle.workers.specs.Workers.{records}
-use Rattle.slot_desks.specs.Ended.{GivesIts, GivesOwn, has_after, without}
-use Rattle.turns.specs.Among.{IsIn}
-use Rattle.turns.specs.World.{RecordOf}
+use Rattle.std.proofs.Common.{◌≡◌, ℕ, Bool, true, false, List, [], ◌∷◌, ◌++◌, map, inl, refl, sym, ◌∙◌, ap, subst, append_assoc, Err, IfNone, IfOk, IfSome}
+use Rattle.std.proofs.Common.{None, Ok, Option, Result, Some, if◌then◌else◌, is_some, option_map, slice_get, eq-eqb}
+use Rattle.{std.proofs.lemmas.Option.slice_get-map, desks.specs.{Desks.as_record, Parts.Begins, declared.progress.JobRecord.JobRecord}}
+use Rattle.{slots.specs.{System.slots, declared.job.Job.{Job, TheVariants.{Take, TakeBoth, Give}}}, slot_desks.specs.Driving.{AreNumbered, LogsGiving, LogsJob}}
+use Rattle.{slot_desks.specs.{Driving.jobs, Ended.{GivesIts, GivesOwn, has_after, without}}, workers.specs.Workers.records, turns.specs.World.RecordOf}
 
 abbrev Log : Type 0
 Log = List (JobRecord Job (List ℕ))
@@ -44,7 +34,8 @@ pub record HasTaken (log log_after : Log) (taken : List ℕ) : Type 0 where
   pub own : GivesOwn [] (records log_after)
   pub had_is : had_after [] (records log_after) ≡ taken ++ had_after [] (records log)
 
-pub has_taken : (log log_after : Log) (number : ℕ) (job : Job) (taken : List ℕ) → IsTaking job → GivesOwn [] (records log) → LogsJob log log_after number job taken → HasTaken log log_after taken
+pub has_taken : (log log_after : Log) (number : ℕ) (job : Job) (taken : List ℕ) → IsTaking job → GivesOwn [] (records log)
+    → LogsJob log log_after number job taken → HasTaken log log_after taken
 has_taken log log_after number job taken takes own one =
     let r = as_record one.reported in
     let had = had_after [] (records log) in
@@ -52,10 +43,14 @@ has_taken log log_after number job taken takes own one =
     let its = takes had taken in
     record {
       own = subst (GivesOwn []) (sym all) (own_on [] (records log) (r ∷ []) own (subst (GivesIts had) (sym one.job_is) its.0, tt));
-      had_is = ap (had_after []) all ∙ had_on [] (records log) (r ∷ []) ∙ ap (λ (job : Job). has_after had job r.reply) one.job_is ∙ ap (λ (l : List ℕ). has_after had job l) one.reply_is ∙ its.1;
+      had_is =
+          ap (had_after []) all ∙ had_on [] (records log) (r ∷ []) ∙ ap (λ (job : Job). has_after had job r.reply) one.job_is
+          ∙ ap (λ (l : List ℕ). has_after had job l) one.reply_is ∙ its.1;
     }
 
-pub worked_own : {T : Type 0} (slots_of : T → List ℕ) (result : Option T) (log log_after : Log) (number : ℕ) (job : Job) → IsTaking job → GivesOwn [] (records log) → IfSome result (λ taken. LogsJob log log_after number job (slots_of taken)) → IfNone result (log_after ≡ log) → GivesOwn [] (records log_after)
+pub worked_own : {T : Type 0} (slots_of : T → List ℕ) (result : Option T) (log log_after : Log) (number : ℕ) (job : Job) → IsTaking job
+    → GivesOwn [] (records log) → IfSome result (λ taken. LogsJob log log_after number job (slots_of taken)) → IfNone result (log_after ≡ log)
+    → GivesOwn [] (records log_after)
 worked_own slots_of (Some taken) log log_after number job takes own one same = (has_taken log log_after number job (slots_of taken) takes own one).own
 worked_own slots_of None log log_after number job takes own one same = subst (λ (l : Log). GivesOwn [] (records l)) (sym same) own
 
@@ -80,11 +75,15 @@ give_these [] had (reported ∷ given) begins = absurd (none_first begins.1) whe
   none_first e = cc
 give_these (slot ∷ taken) had (reported ∷ given) begins =
     let same = first_same (Give slot) reported.job (map Give taken) (map (λ reported. reported.job) given ++ begins.0) begins.1 in
-    let left : has_after (slot ∷ (taken ++ had)) reported.job reported.reply ≡ taken ++ had = ap (λ (job : Job). has_after (slot ∷ (taken ++ had)) job reported.reply) (sym same.0) ∙ without_first slot (taken ++ had) in
-    (subst (GivesIts (slot ∷ (taken ++ had))) same.0 (inl refl), subst (λ (l : List ℕ). GivesOwn l (records given)) (sym left) (give_these taken had given (begins.0, same.1)))
+    let left : has_after (slot ∷ (taken ++ had)) reported.job reported.reply ≡ taken ++ had =
+    ap (λ (job : Job). has_after (slot ∷ (taken ++ had)) job reported.reply) (sym same.0) ∙ without_first slot (taken ++ had) in (
+      subst (GivesIts (slot ∷ (taken ++ had))) same.0 (inl refl),
+      subst (λ (l : List ℕ). GivesOwn l (records given)) (sym left) (give_these taken had given (begins.0, same.1)),
+    )
 
 -- the same after a job that took slots, and the jobs that freed them
-pub gave_own : (log between log_after : Log) (number : ℕ) (job : Job) (taken : List ℕ) (all : Bool) → IsTaking job → GivesOwn [] (records log) → LogsJob log between number job taken → LogsGiving between log_after number taken all → GivesOwn [] (records log_after)
+pub gave_own : (log between log_after : Log) (number : ℕ) (job : Job) (taken : List ℕ) (all : Bool) → IsTaking job → GivesOwn [] (records log)
+    → LogsJob log between number job taken → LogsGiving between log_after number taken all → GivesOwn [] (records log_after)
 gave_own log between log_after number job taken all_of takes own one giving =
     let took = has_taken log between number job taken takes own one in
     let had = had_after [] (records log) in
@@ -107,15 +106,31 @@ none_behind [] = refl
 none_behind (reported ∷ l) = ap (λ (m : Log). reported ∷ m) (none_behind l)
 
 -- what is logged when slots are freed: none of them
-pub gave_none : (log log_after : Log) (number : ℕ) (taken : List ℕ) (all : Bool) → log_after ≡ log → (all ≡ true → taken ≡ []) → LogsGiving log log_after number taken all
-gave_none log log_after number taken all same none = record { given = []; log_is = same ∙ sym (none_behind log); numbered = tt; jobs_are = (map Give taken, refl); all_given = λ is. sym (ap (map Give) (none is)) }
+pub gave_none : (log log_after : Log) (number : ℕ) (taken : List ℕ) (all : Bool) → log_after ≡ log → (all ≡ true → taken ≡ [])
+    → LogsGiving log log_after number taken all
+gave_none log log_after number taken all same none = record {
+  given = [];
+  log_is = same ∙ sym (none_behind log);
+  numbered = tt;
+  jobs_are = (map Give taken, refl);
+  all_given = λ is. sym (ap (map Give) (none is));
+}
 
 -- the first of them
-gave_first : (log log_after : Log) (number slot : ℕ) (more reply : List ℕ) (all : Bool) → LogsJob log log_after number (Give slot) reply → (all ≡ true → more ≡ []) → LogsGiving log log_after number (slot ∷ more) all
-gave_first log log_after number slot more reply all one none = record { given = one.reported ∷ []; log_is = one.log_is; numbered = (one.number_is, tt); jobs_are = (map Give more, ap (λ (job : Job). job ∷ map Give more) (sym one.job_is)); all_given = λ is. (λ i. one.job_is i ∷ map Give (sym (none is) i)) }
+gave_first : (log log_after : Log) (number slot : ℕ) (more reply : List ℕ) (all : Bool) → LogsJob log log_after number (Give slot) reply
+    → (all ≡ true → more ≡ []) → LogsGiving log log_after number (slot ∷ more) all
+gave_first log log_after number slot more reply all one none = record {
+  given = one.reported ∷ [];
+  log_is = one.log_is;
+  numbered = (one.number_is, tt);
+  jobs_are = (map Give more, ap (λ (job : Job). job ∷ map Give more) (sym one.job_is));
+  all_given = λ is. (λ i. one.job_is i ∷ map Give (sym (none is) i));
+}
 
 -- one slot
-pub gave_this : {T : Type 0} (slots_of : T → List ℕ) (result : Option T) (log log_after : Log) (number slot : ℕ) → IfSome result (λ taken. LogsJob log log_after number (Give slot) (slots_of taken)) → IfNone result (log_after ≡ log) → LogsGiving log log_after number (slot ∷ []) (is_some result)
+pub gave_this : {T : Type 0} (slots_of : T → List ℕ) (result : Option T) (log log_after : Log) (number slot : ℕ)
+    → IfSome result (λ taken. LogsJob log log_after number (Give slot) (slots_of taken)) → IfNone result (log_after ≡ log)
+    → LogsGiving log log_after number (slot ∷ []) (is_some result)
 gave_this slots_of (Some taken) log log_after number slot one same = gave_first log log_after number slot [] (slots_of taken) true one (λ is. refl)
 gave_this slots_of None log log_after number slot one same = gave_none log log_after number (slot ∷ []) false same (λ is. absurd cc)
 
@@ -128,24 +143,34 @@ jobs_on [] other = refl
 jobs_on (reported ∷ one) other = ap (λ (l : List Job). reported.job ∷ l) (jobs_on one other)
 
 -- one slot was freed, and then more of them
-pub gave_on : (log between log_after : Log) (number slot : ℕ) (more : List ℕ) (all : Bool) → LogsGiving log between number (slot ∷ []) true → LogsGiving between log_after number more all → LogsGiving log log_after number (slot ∷ more) all
+pub gave_on : (log between log_after : Log) (number slot : ℕ) (more : List ℕ) (all : Bool) → LogsGiving log between number (slot ∷ []) true
+    → LogsGiving between log_after number more all → LogsGiving log log_after number (slot ∷ more) all
 gave_on log between log_after number slot more all one two =
     let first = one.all_given refl in
     record {
       given = one.given ++ two.given;
       log_is = two.log_is ∙ ap (λ (l : Log). l ++ two.given) one.log_is ∙ append_assoc log one.given two.given;
       numbered = numbered_on number one.given two.given one.numbered two.numbered;
-      jobs_are = (two.jobs_are.0, ap (λ (l : List Job). Give slot ∷ l) two.jobs_are.1 ∙ ap (λ (l : List Job). l ++ (jobs two.given ++ two.jobs_are.0)) (sym first) ∙ sym (append_assoc (jobs one.given) (jobs two.given) two.jobs_are.0) ∙ ap (λ (l : List Job). l ++ two.jobs_are.0) (sym (jobs_on one.given two.given)));
+      jobs_are = (
+        two.jobs_are.0,
+        ap (λ (l : List Job). Give slot ∷ l) two.jobs_are.1 ∙ ap (λ (l : List Job). l ++ (jobs two.given ++ two.jobs_are.0)) (sym first)
+            ∙ sym (append_assoc (jobs one.given) (jobs two.given) two.jobs_are.0)
+            ∙ ap (λ (l : List Job). l ++ two.jobs_are.0) (sym (jobs_on one.given two.given)),
+      );
       all_given = λ is. jobs_on one.given two.given ∙ (λ i. first i ++ two.all_given is i);
     }
 
 -- the first slot was freed, and not the second
-pub gave_half : (log log_after : Log) (number slot : ℕ) (more : List ℕ) → LogsGiving log log_after number (slot ∷ []) false → LogsGiving log log_after number (slot ∷ more) false
+pub gave_half : (log log_after : Log) (number slot : ℕ) (more : List ℕ) → LogsGiving log log_after number (slot ∷ []) false
+    → LogsGiving log log_after number (slot ∷ more) false
 gave_half log log_after number slot more one = record {
   given = one.given;
   log_is = one.log_is;
   numbered = one.numbered;
-  jobs_are = (one.jobs_are.0 ++ map Give more, ap (λ (l : List Job). l ++ map Give more) one.jobs_are.1 ∙ append_assoc (jobs one.given) one.jobs_are.0 (map Give more));
+  jobs_are = (
+    one.jobs_are.0 ++ map Give more,
+    ap (λ (l : List Job). l ++ map Give more) one.jobs_are.1 ∙ append_assoc (jobs one.given) one.jobs_are.0 (map Give more),
+  );
   all_given = λ is. absurd cc;
 }
 
@@ -155,7 +180,8 @@ if_ok P Q (Ok a) follows holds = follows a holds
 if_ok P Q (Err e) follows holds = tt
 
 -- what holds of each item of a list by its place, and so of a part of it, holds in the list of these parts
-pub of_places : {X Y : Type 0} (f : X → Y) (Q : ℕ → X → Type 0) (P : Y → Type 0) (xs : List X) → ((i : ℕ) (x : X) → Q i x → P (f x)) → ((i : ℕ) → IfSome (slice_get xs i) (Q i)) → (i : ℕ) → IfSome (slice_get (map f xs) i) P
+pub of_places : {X Y : Type 0} (f : X → Y) (Q : ℕ → X → Type 0) (P : Y → Type 0) (xs : List X) → ((i : ℕ) (x : X) → Q i x → P (f x))
+    → ((i : ℕ) → IfSome (slice_get xs i) (Q i)) → (i : ℕ) → IfSome (slice_get (map f xs) i) P
 of_places {X} f Q P xs follows each i = subst (λ o. IfSome o P) (sym (slice_get-map f xs i)) (at (slice_get xs i) (each i)) where
   at : (o : Option X) → IfSome o (Q i) → IfSome (option_map f o) P
   at None holds = tt

@@ -1,22 +1,10 @@
 -- if each desk frees only slots that it has, no two have a slot at the same time
-use Rattle.std.proofs.Common.{◌≡◌, ◌≢◌, ℕ, zero, suc, ◌<◌, ◌≤◌, ◌⊎◌, Bool, true, false, List, [], ◌∷◌, ◌++◌, length, inl, inr, refl, sym, ◌∙◌, ap, subst, arith, ne_eqb}
-use Rattle.std.specs.Prelude.{◌==◌, ◌||◌, ◌&&◌, not, Option, Some, None, IfSome, option_to_list, slice_get, if◌then◌else◌}
-use Rattle.std.proofs.lemmas.Bool.{eqb-true, eq-eqb}
-use mathlib.Core.Bool.{true≢false}
-use Rattle.turns.specs.Among.{IsIn, AreDistinct}
-use Rattle.turns.specs.Law.{IsLegal}
-use Rattle.turns.specs.World.{RecordOf}
-use Rattle.turns.proofs.Lists.{in_front, in_back, in_either, one_or_two}
-use Rattle.desks.specs.Parts.{own}
-use Rattle.desks.specs.Reports.{MakeUp}
-use Rattle.slots.specs.declared.bank.TheConstants.{BANK_SIZE, SLOT_COUNT}
-use Rattle.slots.specs.Slots.{Busy, with_slot, with_slots, without_slot, lowest_free, both_of, whole}
-use Rattle.slots.specs.System.{slots}
-use Rattle.slots.specs.Taken.{Took}
-use Rattle.slots.specs.declared.job.Job.{Job}
-use Rattle.slots.specs.declared.job.Job.TheVariants.{Take, TakeBoth, Give}
-use Rattle.slots.proofs.FreeSlots.{AreFree, both_free, one_free}
-use Rattle.slots.proofs.TakenOnce.{more_taken, these_taken}
+use Rattle.std.proofs.Common.{◌≡◌, ◌≢◌, ℕ, zero, suc, ◌<◌, ◌≤◌, ◌⊎◌, Bool, true, false, List, [], ◌∷◌, ◌++◌, length, inl, inr, refl, sym, ◌∙◌, ap, subst, arith}
+use Rattle.std.proofs.Common.{ne_eqb, ◌==◌, ◌||◌, ◌&&◌, not, Option, Some, None, IfSome, option_to_list, slice_get, if◌then◌else◌, eqb-true, eq-eqb, true≢false}
+use Rattle.turns.{specs.{Among.{IsIn, AreDistinct}, Law.IsLegal, World.RecordOf}, proofs.Lists.{in_front, in_back, in_either, one_or_two}}
+use Rattle.{desks.specs.{Parts.own, Reports.MakeUp}, slots.specs.declared.{bank.TheConstants.{BANK_SIZE, SLOT_COUNT}, job.Job.Job}}
+use Rattle.slots.specs.{declared.job.Job.TheVariants.{Take, TakeBoth, Give}, Slots.{Busy, with_slot, with_slots, without_slot, lowest_free, both_of, whole}}
+use Rattle.slots.{specs.{System.slots, Taken.Took}, proofs.{FreeSlots.{AreFree, both_free, one_free}, TakenOnce.{more_taken, these_taken}}}
 use Rattle.slot_desks.specs.Ended.{AllGiveOwn, GivesIts, GivesOwn, has_after, without}
 
 abbrev Order : Type 0
@@ -26,7 +14,8 @@ Order = List (RecordOf slots)
 without_in : (gone slot : ℕ) (had : List ℕ) → AreDistinct had → IsIn slot (without gone had) → IsIn slot had × (slot ≢ gone)
 without_in gone slot [] apart none = absurd none
 without_in gone slot (s ∷ had) apart within = by (s == gone) refl (without_in gone slot had apart.1) within where
-  by : (b : Bool) → (s == gone) ≡ b → (IsIn slot (without gone had) → IsIn slot had × (slot ≢ gone)) → IsIn slot (if b then had else s ∷ without gone had) → IsIn slot (s ∷ had) × (slot ≢ gone)
+  by : (b : Bool) → (s == gone) ≡ b → (IsIn slot (without gone had) → IsIn slot had × (slot ≢ gone)) → IsIn slot (if b then had else s ∷ without gone had)
+      → IsIn slot (s ∷ had) × (slot ≢ gone)
   by true e later_in later = (inr later, λ same. apart.0 (subst (λ (n : ℕ). IsIn n had) (same ∙ sym (eqb-true s gone e)) later))
   by false e later_in (inl is) = (inl is, λ same. true≢false (sym (eq-eqb s gone (sym is ∙ same)) ∙ e))
   by false e later_in (inr later) = let h = later_in later in (inr h.0, h.1)
@@ -49,7 +38,10 @@ without_distinct gone (s ∷ had) apart = by (s == gone) (without_distinct gone 
 
 distinct_both : (xs ys : List ℕ) → AreDistinct xs → AreDistinct ys → ((x : ℕ) → IsIn x xs → IsIn x ys → ⊥) → AreDistinct (xs ++ ys)
 distinct_both [] ys one other apart = other
-distinct_both (x ∷ xs) ys one other apart = ((λ within. elim (in_either x xs ys within) [ inl front ↦ one.0 front | inr back ↦ apart x (inl refl) back ]), distinct_both xs ys one.1 other (λ y front back. apart y (inr front) back))
+distinct_both (x ∷ xs) ys one other apart = (
+  (λ within. elim (in_either x xs ys within) [ inl front ↦ one.0 front | inr back ↦ apart x (inl refl) back ]),
+  distinct_both xs ys one.1 other (λ y front back. apart y (inr front) back),
+)
 
 -- slots that a job takes are free, and none of them occurs twice
 or_false : (a b : Bool) → (a || b) ≡ false → b ≡ false
@@ -88,7 +80,8 @@ module _ (state : Busy) (had : ℕ → List ℕ) (k : ℕ) (held : AreHeld state
     clash j slot new old = true≢false (sym (held.busy j slot old) ∙ are_free state taken slot free new)
 
     from : (i slot : ℕ) (b : Bool) → (k == i) ≡ b → IsIn slot (had_if b (had i) job taken) → ((k ≡ i) × IsIn slot taken) ⊎ IsIn slot (had i)
-    from i slot true e within = elim (in_either slot taken (had i) (subst (IsIn slot) (takes (had i)) within)) [ inl new ↦ inl (eqb-true k i e, new) | inr old ↦ inr old ]
+    from i slot true e within =
+        elim (in_either slot taken (had i) (subst (IsIn slot) (takes (had i)) within)) [ inl new ↦ inl (eqb-true k i e, new) | inr old ↦ inr old ]
     from i slot false e within = inr within
 
     busy_by : (i slot : ℕ) → ((k ≡ i) × IsIn slot taken) ⊎ IsIn slot (had i) → with_slots state taken slot ≡ true
@@ -142,8 +135,12 @@ module _ (state : Busy) (had : ℕ → List ℕ) (k : ℕ) (held : AreHeld state
 
   -- a job takes none that a desk has
   takes_other : (a slot : ℕ) (job : Job) → IsIn slot (had a) → IsIn slot (whole state job).reply → ⊥
-  takes_other a slot Take old new = clash Take (option_to_list (lowest_free state 0 SLOT_COUNT)) (λ l. refl) (one_free state 0 SLOT_COUNT (lowest_free state 0 SLOT_COUNT) (omega arith) refl) a slot new old
-  takes_other a slot TakeBoth old new = clash TakeBoth (both_of (lowest_free state 0 BANK_SIZE) (lowest_free state BANK_SIZE BANK_SIZE)) (λ l. refl) (both_free state (lowest_free state 0 BANK_SIZE) (lowest_free state BANK_SIZE BANK_SIZE) refl refl) a slot new old
+  takes_other a slot Take old new =
+      clash Take (option_to_list (lowest_free state 0 SLOT_COUNT)) (λ l. refl) (one_free state 0 SLOT_COUNT (lowest_free state 0 SLOT_COUNT) (omega arith) refl)
+      a slot new old
+  takes_other a slot TakeBoth old new =
+      clash TakeBoth (both_of (lowest_free state 0 BANK_SIZE) (lowest_free state BANK_SIZE BANK_SIZE)) (λ l. refl)
+      (both_free state (lowest_free state 0 BANK_SIZE) (lowest_free state BANK_SIZE BANK_SIZE) refl refl) a slot new old
   takes_other a slot (Give gone) old none = none
 
 -- in this order each desk frees only slots of its own, if these are what it has at first
@@ -193,22 +190,30 @@ pub record GivesItBack (actor slot : ℕ) (between : Order) : Type 0 where
   pub by : back.actor ≡ actor
 
 -- a desk keeps a slot unless it frees it
-keeps_or_gives : (had : ℕ → List ℕ) (a slot k : ℕ) (job : Job) (reply : List ℕ) → IsIn slot (had a) → ((k ≡ a) × (job ≡ Give slot)) ⊎ IsIn slot (had_with had k job reply a)
+keeps_or_gives : (had : ℕ → List ℕ) (a slot k : ℕ) (job : Job) (reply : List ℕ) → IsIn slot (had a)
+    → ((k ≡ a) × (job ≡ Give slot)) ⊎ IsIn slot (had_with had k job reply a)
 keeps_or_gives had a slot k job reply its = by (k == a) refl job where
   by : (b : Bool) → (k == a) ≡ b → (job : Job) → ((k ≡ a) × (job ≡ Give slot)) ⊎ IsIn slot (had_if b (had a) job reply)
   by false e job = inr its
   by true e Take = inr (in_back slot reply (had a) its)
   by true e TakeBoth = inr (in_back slot reply (had a) its)
-  by true e (Give gone) = elim (one_or_two slot gone) [ inl same ↦ inl (eqb-true k a e, ap (λ (s : ℕ). Give s) (sym same)) | inr other ↦ inr (without_keeps gone slot (had a) its other) ]
+  by true e (Give gone) = elim (one_or_two slot gone) [
+    | inl same ↦ inl (eqb-true k a e, ap (λ (s : ℕ). Give s) (sym same))
+    | inr other ↦ inr (without_keeps gone slot (had a) its other)
+  ]
 
-given_by : (a slot : ℕ) (other : RecordOf slots) (later between : Order) → Took slot other → (now : HasReached (between ++ other ∷ later)) → IsIn slot (now.had a) → GivesItBack a slot between
-given_by a slot other later [] took now its = absurd (takes_other now.state now.had other.actor now.held a slot other.job its (subst (IsIn slot) now.legal.2 took))
+given_by : (a slot : ℕ) (other : RecordOf slots) (later between : Order) → Took slot other → (now : HasReached (between ++ other ∷ later))
+    → IsIn slot (now.had a) → GivesItBack a slot between
+given_by a slot other later [] took now its =
+    absurd (takes_other now.state now.had other.actor now.held a slot other.job its (subst (IsIn slot) now.legal.2 took))
 given_by a slot other later (r ∷ between) took now its = elim (keeps_or_gives now.had a slot r.actor r.job r.reply its) [
   | inl gives ↦ record { back = r; within = inl refl; gives = gives.1; by = gives.0 }
-  | inr still ↦ let g = given_by a slot other later between took (step_on r (between ++ other ∷ later) now) still in record { back = g.back; within = inr g.within; gives = g.gives; by = g.by }
+  | inr still ↦ let g = given_by a slot other later between took (step_on r (between ++ other ∷ later) now) still in
+      record { back = g.back; within = inr g.within; gives = g.gives; by = g.by }
 ]
 
-took_its : (had : ℕ → List ℕ) (state : Busy) (slot k : ℕ) (job : Job) (reply : List ℕ) → reply ≡ (whole state job).reply → IsIn slot reply → IsIn slot (had_with had k job reply k)
+took_its : (had : ℕ → List ℕ) (state : Busy) (slot k : ℕ) (job : Job) (reply : List ℕ) → reply ≡ (whole state job).reply → IsIn slot reply
+    → IsIn slot (had_with had k job reply k)
 took_its had state slot k job reply is within = by (k == k) (eq-eqb k k refl) job is where
   by : (b : Bool) → b ≡ true → (job : Job) → reply ≡ (whole state job).reply → IsIn slot (had_if b (had k) job reply)
   by false e job is = absurd (true≢false (sym e))
@@ -217,10 +222,19 @@ took_its had state slot k job reply is within = by (k == k) (eq-eqb k k refl) jo
   by true e (Give gone) is = absurd (subst (IsIn slot) is within)
 
 -- a desk that took a slot frees it before it is taken again
-pub given_by_its_taker : (order before between later : Order) (r other : RecordOf slots) (slot : ℕ) → IsLegal slots 0 slots.opening order → AllOwn (λ i. []) order → order ≡ before ++ r ∷ (between ++ other ∷ later) → Took slot r → Took slot other → GivesItBack r.actor slot between
+pub given_by_its_taker : (order before between later : Order) (r other : RecordOf slots) (slot : ℕ) → IsLegal slots 0 slots.opening order
+    → AllOwn (λ i. []) order → order ≡ before ++ r ∷ (between ++ other ∷ later) → Took slot r → Took slot other → GivesItBack r.actor slot between
 given_by_its_taker order before between later r other slot legal all is took too =
     let rest = between ++ other ∷ later in
-    let first : HasReached (before ++ r ∷ (between ++ other ∷ later)) = subst HasReached is (record { place = 0; state = slots.opening; had = λ i. []; held = record { busy = λ i slot none. absurd none; one = λ i j slot none too. absurd none; distinct = λ i. tt }; own = all; legal = legal }) in
+    let first : HasReached (before ++ r ∷ (between ++ other ∷ later)) =
+    subst HasReached is (record {
+      place = 0;
+      state = slots.opening;
+      had = λ i. [];
+      held = record { busy = λ i slot none. absurd none; one = λ i j slot none too. absurd none; distinct = λ i. tt };
+      own = all;
+      legal = legal;
+    }) in
     let now = reach before (r ∷ rest) first in
     given_by r.actor slot other later between too (step_on r rest now) (took_its now.had now.state slot r.actor r.job r.reply now.legal.2 took)
 

@@ -1,29 +1,21 @@
 -- the rounds of a worker that takes and frees slots
 use Rattle.std.proofs.Common.{◌≡◌, ℕ, suc, ◌<◌, ◌≤◌, ◌+◌, Bool, true, false, List, [], ◌∷◌, ◌++◌, map, inl, inr, refl, sym, ◌∙◌, ap, subst, append_assoc, arith}
-use Rattle.std.specs.Prelude.{IfNone, IfSome, None, Option, Some, if◌then◌else◌, option_to_list, ◌==◌}
-use Rattle.desks.specs.Desks.{as_record}
-use Rattle.desks.specs.Met.{DeskOf}
-use Rattle.desks.specs.Parts.{own}
-use Rattle.desks.specs.Reports.{unreported}
-use Rattle.slots.proofs.FreeSlots.{lowest_found}
-use Rattle.slots.specs.Slots.{Busy, both_of, lowest_free, whole}
-use Rattle.slots.specs.System.{slots}
-use Rattle.slots.specs.declared.bank.TheConstants.{BANK_SIZE, SLOT_COUNT}
-use Rattle.slots.specs.declared.job.Job.{Job}
+use Rattle.std.proofs.Common.{IfNone, IfSome, None, Option, Some, if◌then◌else◌, option_to_list, ◌==◌}
+use Rattle.{desks.specs.{Desks.as_record, Met.DeskOf, Parts.own, Reports.unreported}, slots.proofs.FreeSlots.lowest_found}
+use Rattle.slots.specs.{Slots.{Busy, both_of, lowest_free, whole}, System.slots, declared.{bank.TheConstants.{BANK_SIZE, SLOT_COUNT}, job.Job.Job}}
 use Rattle.slots.specs.declared.job.Job.TheVariants.{Give, Take, TakeBoth}
-use Rattle.slot_desks.specs.Driving.{AreNumbered, AreRounds, AreSlots, HasDoneRounds, IsRound, LogOf, LogsGiving, LogsJob, LogsRound, Recorded, jobs, taking_in}
-use Rattle.turns.specs.Among.{IsIn}
-use Rattle.turns.specs.Law.{IsLegal}
-use Rattle.turns.specs.World.{RecordOf}
-use Rattle.workers.specs.Workers.{IsLogOf, records}
+use Rattle.slot_desks.specs.Driving.{AreRounds, AreSlots, HasDoneRounds, LogOf, LogsGiving, LogsJob, LogsRound, Recorded, taking_in}
+use Rattle.{turns.specs.{Among.IsIn, Law.IsLegal, World.RecordOf}, workers.specs.Workers.{IsLogOf, records}}
 
 -- the slots that a job done whole takes are slots
-one_is : (busy : Busy) (from count slot : ℕ) (o : Option ℕ) → from + count ≤ SLOT_COUNT → lowest_free busy from count ≡ o → IsIn slot (option_to_list o) → slot < SLOT_COUNT
+one_is : (busy : Busy) (from count slot : ℕ) (o : Option ℕ) → from + count ≤ SLOT_COUNT → lowest_free busy from count ≡ o → IsIn slot (option_to_list o)
+    → slot < SLOT_COUNT
 one_is busy from count slot None few found within = absurd within
 one_is busy from count slot (Some s) few found (inl is) = let f = lowest_found busy from count s found in omega (arith, few, f.below, is)
 one_is busy from count slot (Some s) few found (inr none) = absurd none
 
-both_are : (busy : Busy) (slot : ℕ) (lower upper : Option ℕ) → lowest_free busy 0 BANK_SIZE ≡ lower → lowest_free busy BANK_SIZE BANK_SIZE ≡ upper → IsIn slot (both_of lower upper) → slot < SLOT_COUNT
+both_are : (busy : Busy) (slot : ℕ) (lower upper : Option ℕ) → lowest_free busy 0 BANK_SIZE ≡ lower → lowest_free busy BANK_SIZE BANK_SIZE ≡ upper
+    → IsIn slot (both_of lower upper) → slot < SLOT_COUNT
 both_are busy slot (Some l) (Some u) lower upper (inl is) = one_is busy 0 BANK_SIZE slot (Some l) (omega arith) lower (inl is)
 both_are busy slot (Some l) (Some u) lower upper (inr (inl is)) = one_is busy BANK_SIZE BANK_SIZE slot (Some u) (omega arith) upper (inl is)
 both_are busy slot (Some l) (Some u) lower upper (inr (inr none)) = absurd none
@@ -53,10 +45,13 @@ is_last [] more reported = inl refl
 is_last (x ∷ log) more reported = inr (is_last log more reported)
 
 -- the slots that a logged job took are slots
-pub logged_slots : (desk : DeskOf slots (Unit {0})) (log log_after : LogOf) (reported : Recorded) (taken : List ℕ) → IsLogOf slots desk log_after → IsLegal slots 0 slots.opening desk.seen → log_after ≡ log ++ reported ∷ [] → reported.reply ≡ taken → AreSlots taken
+pub logged_slots : (desk : DeskOf slots (Unit {0})) (log log_after : LogOf) (reported : Recorded) (taken : List ℕ) → IsLogOf slots desk log_after
+    → IsLegal slots 0 slots.opening desk.seen → log_after ≡ log ++ reported ∷ [] → reported.reply ≡ taken → AreSlots taken
 logged_slots desk log log_after reported taken is legal all reply =
     let r = as_record reported in
-    let within : IsIn r (own desk.number desk.seen) = subst (IsIn r) (sym (is ∙ ap (λ (l : LogOf). records l ++ unreported slots desk.number desk.actor) all)) (is_last log (unreported slots desk.number desk.actor) reported) in
+    let within : IsIn r (own desk.number desk.seen) =
+    subst (IsIn r) (sym (is ∙ ap (λ (l : LogOf). records l ++ unreported slots desk.number desk.actor) all))
+    (is_last log (unreported slots desk.number desk.actor) reported) in
     subst AreSlots reply (legal_slots 0 slots.opening desk.seen r legal (own_within desk.number desk.seen r within))
 
 -- a round in which no slots were taken
@@ -67,7 +62,8 @@ round_none log log_after round same = record { made = []; log_is = same ∙ sym 
   none_behind (reported ∷ l) = ap (λ (m : LogOf). reported ∷ m) (none_behind l)
 
 -- a round in which slots were taken and freed
-pub round_of : (log between log_after : LogOf) (round : ℕ) (taken : List ℕ) (all : Bool) → LogsJob log between round (taking_in round) taken → LogsGiving between log_after round taken all → LogsRound log log_after round all
+pub round_of : (log between log_after : LogOf) (round : ℕ) (taken : List ℕ) (all : Bool) → LogsJob log between round (taking_in round) taken
+    → LogsGiving between log_after round taken all → LogsRound log log_after round all
 round_of log between log_after round taken all one giving = record {
   made = one.reported ∷ giving.given;
   log_is = giving.log_is ∙ ap (λ (l : LogOf). l ++ giving.given) one.log_is ∙ append_assoc log (one.reported ∷ []) giving.given;
@@ -88,7 +84,8 @@ rounds_more count log log_after rounds one =
     subst (λ (n : ℕ). AreRounds n log_after) next (log, one.made, one.log_is, rounds, one.whole refl, one.numbered)
 
 -- a worker that can't go on in a round
-pub stopped_in : (rounds count : ℕ) (log log_after : LogOf) (all : Bool) (Stuck : Type 0) → count < rounds → AreRounds count log → LogsRound log log_after count all → Stuck → HasDoneRounds rounds log_after Stuck
+pub stopped_in : (rounds count : ℕ) (log log_after : LogOf) (all : Bool) (Stuck : Type 0) → count < rounds → AreRounds count log
+    → LogsRound log log_after count all → Stuck → HasDoneRounds rounds log_after Stuck
 stopped_in rounds count log log_after all Stuck few done one stuck = record {
   count = count;
   done = log;
@@ -100,7 +97,9 @@ stopped_in rounds count log log_after all Stuck few done one stuck = record {
 }
 
 -- after all rounds a slot is taken to keep
-pub kept_one : {T : Type 0} (slots_of : T → List ℕ) (result : Option T) (rounds : ℕ) (log log_after : LogOf) (Stuck : Type 0) → AreRounds rounds log → IfSome result (λ taken. LogsJob log log_after rounds Take (slots_of taken)) → IfNone result (log_after ≡ log) → IfNone result Stuck → HasDoneRounds rounds log_after Stuck
+pub kept_one : {T : Type 0} (slots_of : T → List ℕ) (result : Option T) (rounds : ℕ) (log log_after : LogOf) (Stuck : Type 0) → AreRounds rounds log
+    → IfSome result (λ taken. LogsJob log log_after rounds Take (slots_of taken)) → IfNone result (log_after ≡ log) → IfNone result Stuck
+    → HasDoneRounds rounds log_after Stuck
 kept_one slots_of (Some taken) rounds log log_after Stuck done one same stuck = record {
   count = rounds;
   done = log;

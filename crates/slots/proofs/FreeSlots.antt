@@ -1,16 +1,15 @@
 -- the lowest free slot
-use Rattle.std.proofs.Common.{◌≡◌, ℕ, zero, suc, ◌+◌, ◌<◌, ◌≤◌, Bool, true, false, List, [], ◌∷◌, inl, inr, refl, sym, ◌∙◌, ap, arith}
-use Rattle.std.specs.Prelude.{◌==◌, ◌||◌, Option, Some, None, option_to_list, if◌then◌else◌, ⊤}
-use Rattle.std.proofs.lemmas.Bool.{eqb-true}
-use Rattle.turns.proofs.Lists.{one_or_two}
-use Rattle.slots.specs.declared.bank.TheConstants.{BANK_SIZE, SLOT_COUNT}
-use Rattle.slots.specs.Slots.{Busy, with_slot, lowest_free, both_of}
+use Rattle.std.proofs.Common.{◌≡◌, ℕ, zero, suc, ◌+◌, ◌<◌, ◌≤◌, Bool, true, false, List, [], ◌∷◌, inl, inr, refl, sym, ◌∙◌, ap, arith, ◌==◌, ◌||◌, Option, Some}
+use Rattle.std.proofs.Common.{None, option_to_list, if◌then◌else◌, eqb-true}
+use Rattle.{std.specs.Prelude.⊤, turns.proofs.Lists.one_or_two}
+use Rattle.slots.specs.{declared.bank.TheConstants.{BANK_SIZE, SLOT_COUNT}, Slots.{Busy, with_slot, lowest_free, both_of}}
 
 abbrev pub or_first : Option ℕ → Option ℕ → Option ℕ
 or_first (Some slot) other = Some slot
 or_first None other = other
 
-first_of : (t : Bool) (from : ℕ) (all first last : Option ℕ) → all ≡ or_first first last → (if t then all else Some from) ≡ or_first (if t then first else Some from) last
+first_of : (t : Bool) (from : ℕ) (all first last : Option ℕ) → all ≡ or_first first last
+    → (if t then all else Some from) ≡ or_first (if t then first else Some from) last
 first_of true from all first last e = e
 first_of false from all first last e = refl
 
@@ -42,7 +41,8 @@ pub record IsFound (busy : Busy) (from count slot : ℕ) : Type 0 where
   pub below : slot < from + count
   pub free : busy slot ≡ false
 
-found_by : (busy : Busy) (from count slot : ℕ) (b : Bool) → busy from ≡ b → (lowest_free busy (suc from) count ≡ Some slot → IsFound busy (suc from) count slot) → (if b then lowest_free busy (suc from) count else Some from) ≡ Some slot → IsFound busy from (suc count) slot
+found_by : (busy : Busy) (from count slot : ℕ) (b : Bool) → busy from ≡ b → (lowest_free busy (suc from) count ≡ Some slot → IsFound busy (suc from) count slot)
+    → (if b then lowest_free busy (suc from) count else Some from) ≡ Some slot → IsFound busy from (suc count) slot
 found_by busy from count slot false e later is = let one : from ≡ slot = cc in record { above = omega arith; below = omega arith; free = ap busy (sym one) ∙ e }
 found_by busy from count slot true e later is = let f = later is in record { above = omega (arith, f.above); below = omega (arith, f.below); free = f.free }
 
@@ -52,7 +52,8 @@ lowest_found busy from zero slot e = absurd cc
 lowest_found busy from (suc count) slot e = found_by busy from count slot (busy from) refl (lowest_found busy (suc from) count slot) e
 
 -- the first slot that is free is the lowest, and if none is free there is no lowest
-pub lowest_is : (busy : Busy) (from count slot : ℕ) → from ≤ slot → slot < from + count → ((s : ℕ) → from ≤ s → s < slot → busy s ≡ true) → busy slot ≡ false → lowest_free busy from count ≡ Some slot
+pub lowest_is : (busy : Busy) (from count slot : ℕ) → from ≤ slot → slot < from + count → ((s : ℕ) → from ≤ s → s < slot → busy s ≡ true) → busy slot ≡ false
+    → lowest_free busy from count ≡ Some slot
 unfolding lowest_free
 lowest_is busy from zero slot above below taken free = absurd (omega arith)
 lowest_is busy from (suc count) slot above below taken free = elim (one_or_two from slot) [
@@ -77,7 +78,8 @@ pub one_free : (busy : Busy) (from count : ℕ) (o : Option ℕ) → from + coun
 one_free busy from count None fits e = tt
 one_free busy from count (Some slot) fits e = let f = lowest_found busy from count slot e in (omega (arith, f.below), f.free, tt)
 
-pub both_free : (busy : Busy) (lower upper : Option ℕ) → lowest_free busy 0 BANK_SIZE ≡ lower → lowest_free busy BANK_SIZE BANK_SIZE ≡ upper → AreFree busy (both_of lower upper)
+pub both_free : (busy : Busy) (lower upper : Option ℕ) → lowest_free busy 0 BANK_SIZE ≡ lower → lowest_free busy BANK_SIZE BANK_SIZE ≡ upper
+    → AreFree busy (both_of lower upper)
 both_free busy None upper el eu = tt
 both_free busy (Some a) None el eu = tt
 both_free busy (Some a) (Some b) el eu =

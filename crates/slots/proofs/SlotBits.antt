@@ -1,17 +1,12 @@
 -- a slot's bit in its bank's word
-use Rattle.std.proofs.Common.{◌≡◌, ◌≢◌, ℕ, ◌+◌, ◌-◌, ◌*◌, ◌/◌, ◌%◌, ◌^◌, ◌<◌, ◌≤◌, ◌⊎◌, Bool, true, false, List, [], ◌∷◌, length, slice_index, slice_set, length-set, inl, inr, refl, sym, ◌∙◌, ap, arith, pow_mono, bit_and, bit_or}
-use Rattle.std.specs.Prelude.{◌==◌, ◌||◌, ◌&&◌, None, Some, not, map, min}
-use Rattle.std.specs.Int.{bit_at, trailing_ones, w64}
-use Rattle.std.proofs.lemmas.Nat.{and_le_r}
-use Rattle.std.proofs.lemmas.Bool.{eqb-true, eqb-false}
+use Rattle.std.proofs.Common.{◌≡◌, ◌≢◌, ℕ, ◌+◌, ◌-◌, ◌*◌, ◌/◌, ◌%◌, ◌^◌, ◌<◌, ◌≤◌, ◌⊎◌, Bool, true, false, List, [], ◌∷◌, length, slice_index, slice_set}
+use Rattle.std.proofs.Common.{length-set, inl, inr, refl, sym, ◌∙◌, ap, arith, pow_mono, bit_and, bit_or, ◌==◌, ◌||◌, ◌&&◌, None, Some, not, map, min, w64}
+use Rattle.std.proofs.Common.{eqb-true}
+use Rattle.std.{specs.Int.{bit_at, trailing_ones}, proofs.lemmas.Nat.and_le_r}
 use Rattle.std.proofs.lemmas.Nat.Bits.{bit_at_or, bit_at_and, bit_at_not, bit_at-pow_same, bit_at-pow_other, bit_at-lt, bit_at_ones, bit_at-trailing_ones}
-use Rattle.turns.specs.System.{perform, perform_all, AreDue}
-use Rattle.turns.proofs.Lists.{one_or_two, index_same, index_other}
-use Rattle.slots.specs.declared.bank.TheConstants.{BANK_SIZE, SLOT_COUNT}
-use Rattle.slots.specs.Slots.{Busy, with_slot, with_slots, without_slot}
-use Rattle.slots.specs.System.{Shows, free_in, slots}
-use Rattle.slots.specs.declared.effect.Effect.TheVariants.{Mark, Clear}
-use Rattle.slots.proofs.FreeSlots.{AreFree, lowest_is, lowest_none}
+use Rattle.{std.proofs.lemmas.Bool.eqb-false, turns.{specs.System.{perform, perform_all, AreDue}, proofs.Lists.{one_or_two, index_same, index_other}}}
+use Rattle.slots.specs.declared.{bank.TheConstants.{BANK_SIZE, SLOT_COUNT}, effect.Effect.TheVariants.{Mark, Clear}}
+use Rattle.slots.{specs.{Slots.{Busy, with_slot, with_slots, without_slot}, System.{Shows, free_in, slots}}, proofs.FreeSlots.{AreFree, lowest_is, lowest_none}}
 
 -- a word with one of its lowest 32 bits set to a value, and the others as they were
 record IsOneBit (word place value after : ℕ) : Type 0 where
@@ -73,16 +68,21 @@ module _ (bank word : ℕ) (two : bank < 2) where
   pub zero_none : BANK_SIZE ≤ lowest_zero → free_in bank word ≡ None
   zero_none all = lowest_none taken_in (BANK_SIZE * bank) BANK_SIZE (λ s from within. taken_before s from within (omega (arith, all, within)))
 
-module _ (words : List ℕ) (long : length words ≡ 5) (slot : ℕ) (below : slot < SLOT_COUNT) (value after : ℕ) (one : IsOneBit (slice_index words (slot / BANK_SIZE)) (slot % BANK_SIZE) value after) where
+module _ (words : List ℕ) (long : length words ≡ 5) (slot : ℕ) (below : slot < SLOT_COUNT) (value after : ℕ)
+    (one : IsOneBit (slice_index words (slot / BANK_SIZE)) (slot % BANK_SIZE) value after) where
   -- the slot's bit, and that of another slot, once the word is set
   bit_here : (s : ℕ) → s ≡ slot → bit_at (slice_index (slice_set words (slot / BANK_SIZE) after) (s / BANK_SIZE)) (s % BANK_SIZE) ≡ value
   bit_here s same =
       ap (λ (t : ℕ). bit_at (slice_index (slice_set words (slot / BANK_SIZE) after) (t / BANK_SIZE)) (t % BANK_SIZE)) same
       ∙ ap (λ (n : ℕ). bit_at n (slot % BANK_SIZE)) (index_same words (slot / BANK_SIZE) after (omega arith)) ∙ one.here
 
-  bit_else : (s : ℕ) → s < SLOT_COUNT → s ≢ slot → bit_at (slice_index (slice_set words (slot / BANK_SIZE) after) (s / BANK_SIZE)) (s % BANK_SIZE) ≡ bit_at (slice_index words (s / BANK_SIZE)) (s % BANK_SIZE)
+  bit_else : (s : ℕ) → s < SLOT_COUNT → s ≢ slot
+      → bit_at (slice_index (slice_set words (slot / BANK_SIZE) after) (s / BANK_SIZE)) (s % BANK_SIZE)
+      ≡ bit_at (slice_index words (s / BANK_SIZE)) (s % BANK_SIZE)
   bit_else s low other = at (one_or_two (s / BANK_SIZE) (slot / BANK_SIZE)) where
-    at : (s / BANK_SIZE ≡ slot / BANK_SIZE) ⊎ (s / BANK_SIZE ≢ slot / BANK_SIZE) → bit_at (slice_index (slice_set words (slot / BANK_SIZE) after) (s / BANK_SIZE)) (s % BANK_SIZE) ≡ bit_at (slice_index words (s / BANK_SIZE)) (s % BANK_SIZE)
+    at : (s / BANK_SIZE ≡ slot / BANK_SIZE) ⊎ (s / BANK_SIZE ≢ slot / BANK_SIZE)
+        → bit_at (slice_index (slice_set words (slot / BANK_SIZE) after) (s / BANK_SIZE)) (s % BANK_SIZE)
+        ≡ bit_at (slice_index words (s / BANK_SIZE)) (s % BANK_SIZE)
     at (inl bank) =
         let apart : s % BANK_SIZE ≢ slot % BANK_SIZE = λ place. other (omega arith) in
         ap (λ (n : ℕ). bit_at (slice_index (slice_set words (slot / BANK_SIZE) after) n) (s % BANK_SIZE)) bank
@@ -92,46 +92,65 @@ module _ (words : List ℕ) (long : length words ≡ 5) (slot : ℕ) (below : sl
     at (inr apart) = ap (λ (n : ℕ). bit_at n (s % BANK_SIZE)) (index_other words (slot / BANK_SIZE) (s / BANK_SIZE) after apart)
 
 -- a slot is marked: the words show the set with it
-pub shows_mark : (words : List ℕ) (busy : Busy) (slot : ℕ) → length words ≡ 5 → slot < SLOT_COUNT → Shows words busy → Shows (perform slots words (Mark slot)) (with_slot busy slot)
+pub shows_mark : (words : List ℕ) (busy : Busy) (slot : ℕ) → length words ≡ 5 → slot < SLOT_COUNT → Shows words busy
+    → Shows (perform slots words (Mark slot)) (with_slot busy slot)
 shows_mark words busy slot long below shows = record { bits = λ s low. at s low (s == slot) refl } where
   one : IsOneBit (slice_index words (slot / BANK_SIZE)) (slot % BANK_SIZE) 1 (bit_or (slice_index words (slot / BANK_SIZE)) (2 ^ (slot % BANK_SIZE)))
   one = marked (slice_index words (slot / BANK_SIZE)) (slot % BANK_SIZE) (omega arith)
 
-  at : (s : ℕ) → s < SLOT_COUNT → (b : Bool) → (s == slot) ≡ b → (b || busy s) ≡ (bit_at (slice_index (perform slots words (Mark slot)) (s / BANK_SIZE)) (s % BANK_SIZE) == 1)
-  at s low true e = sym (ap (λ (n : ℕ). n == 1) (bit_here words long slot below 1 (bit_or (slice_index words (slot / BANK_SIZE)) (2 ^ (slot % BANK_SIZE))) one s (eqb-true s slot e)))
-  at s low false e = shows.bits s low ∙ sym (ap (λ (n : ℕ). n == 1) (bit_else words long slot below 1 (bit_or (slice_index words (slot / BANK_SIZE)) (2 ^ (slot % BANK_SIZE))) one s low (eqb-false s slot e)))
+  at : (s : ℕ) → s < SLOT_COUNT → (b : Bool) → (s == slot) ≡ b
+      → (b || busy s) ≡ (bit_at (slice_index (perform slots words (Mark slot)) (s / BANK_SIZE)) (s % BANK_SIZE) == 1)
+  at s low true e =
+      sym (ap (λ (n : ℕ). n == 1) (bit_here words long slot below 1 (bit_or (slice_index words (slot / BANK_SIZE)) (2 ^ (slot % BANK_SIZE))) one s
+      (eqb-true s slot e)))
+  at s low false e =
+      shows.bits s low
+      ∙ sym (ap (λ (n : ℕ). n == 1) (bit_else words long slot below 1 (bit_or (slice_index words (slot / BANK_SIZE)) (2 ^ (slot % BANK_SIZE))) one s low
+      (eqb-false s slot e)))
 
 -- a slot is cleared: the words show the set without it
-pub shows_clear : (words : List ℕ) (busy : Busy) (slot : ℕ) → length words ≡ 5 → slot < SLOT_COUNT → Shows words busy → Shows (perform slots words (Clear slot)) (without_slot busy slot)
+pub shows_clear : (words : List ℕ) (busy : Busy) (slot : ℕ) → length words ≡ 5 → slot < SLOT_COUNT → Shows words busy
+    → Shows (perform slots words (Clear slot)) (without_slot busy slot)
 shows_clear words busy slot long below shows = record { bits = λ s low. at s low (s == slot) refl } where
   after : ℕ
   after = bit_and (slice_index words (slot / BANK_SIZE)) (2 ^ 64 - 1 - 2 ^ (slot % BANK_SIZE))
 
-  one : IsOneBit (slice_index words (slot / BANK_SIZE)) (slot % BANK_SIZE) 0 (bit_and (slice_index words (slot / BANK_SIZE)) (2 ^ 64 - 1 - 2 ^ (slot % BANK_SIZE)))
+  one : IsOneBit (slice_index words (slot / BANK_SIZE)) (slot % BANK_SIZE) 0
+      (bit_and (slice_index words (slot / BANK_SIZE)) (2 ^ 64 - 1 - 2 ^ (slot % BANK_SIZE)))
   one = cleared (slice_index words (slot / BANK_SIZE)) (slot % BANK_SIZE) (omega arith)
 
-  at : (s : ℕ) → s < SLOT_COUNT → (b : Bool) → (s == slot) ≡ b → (not b && busy s) ≡ (bit_at (slice_index (perform slots words (Clear slot)) (s / BANK_SIZE)) (s % BANK_SIZE) == 1)
-  at s low true e = sym (ap (λ (n : ℕ). n == 1) (bit_here words long slot below 0 (bit_and (slice_index words (slot / BANK_SIZE)) (2 ^ 64 - 1 - 2 ^ (slot % BANK_SIZE))) one s (eqb-true s slot e)))
-  at s low false e = shows.bits s low ∙ sym (ap (λ (n : ℕ). n == 1) (bit_else words long slot below 0 (bit_and (slice_index words (slot / BANK_SIZE)) (2 ^ 64 - 1 - 2 ^ (slot % BANK_SIZE))) one s low (eqb-false s slot e)))
+  at : (s : ℕ) → s < SLOT_COUNT → (b : Bool) → (s == slot) ≡ b
+      → (not b && busy s) ≡ (bit_at (slice_index (perform slots words (Clear slot)) (s / BANK_SIZE)) (s % BANK_SIZE) == 1)
+  at s low true e =
+      sym (ap (λ (n : ℕ). n == 1) (bit_here words long slot below 0 (bit_and (slice_index words (slot / BANK_SIZE)) (2 ^ 64 - 1 - 2 ^ (slot % BANK_SIZE))) one s
+      (eqb-true s slot e)))
+  at s low false e =
+      shows.bits s low
+      ∙ sym (ap (λ (n : ℕ). n == 1) (bit_else words long slot below 0 (bit_and (slice_index words (slot / BANK_SIZE)) (2 ^ 64 - 1 - 2 ^ (slot % BANK_SIZE))) one
+      s low (eqb-false s slot e)))
 
 -- a free slot's bit is 0
-free_bit : (words : List ℕ) (busy : Busy) (slot : ℕ) → slot < SLOT_COUNT → Shows words busy → busy slot ≡ false → bit_at (slice_index words (slot / BANK_SIZE)) (slot % BANK_SIZE) ≡ 0
+free_bit : (words : List ℕ) (busy : Busy) (slot : ℕ) → slot < SLOT_COUNT → Shows words busy → busy slot ≡ false
+    → bit_at (slice_index words (slot / BANK_SIZE)) (slot % BANK_SIZE) ≡ 0
 free_bit words busy slot below shows free =
     let not_one = eqb-false (bit_at (slice_index words (slot / BANK_SIZE)) (slot % BANK_SIZE)) 1 (sym (shows.bits slot below) ∙ free) in
     omega (arith, bit_at-lt (slice_index words (slot / BANK_SIZE)) (slot % BANK_SIZE))
 
 -- free slots are marked one after another
-pub shows_marks : (words : List ℕ) (busy : Busy) (taken : List ℕ) → length words ≡ 5 → Shows words busy → AreFree busy taken → Shows (perform_all slots words (map Mark taken)) (with_slots busy taken)
+pub shows_marks : (words : List ℕ) (busy : Busy) (taken : List ℕ) → length words ≡ 5 → Shows words busy → AreFree busy taken
+    → Shows (perform_all slots words (map Mark taken)) (with_slots busy taken)
 unfolding perform_all
 shows_marks words busy [] long shows free = shows
 shows_marks words busy (slot ∷ taken) long shows free =
     shows_marks (perform slots words (Mark slot)) (with_slot busy slot) taken
-    (length-set words (slot / BANK_SIZE) (bit_or (slice_index words (slot / BANK_SIZE)) (2 ^ (slot % BANK_SIZE))) ∙ long) (shows_mark words busy slot long free.0 shows) free.2
+    (length-set words (slot / BANK_SIZE) (bit_or (slice_index words (slot / BANK_SIZE)) (2 ^ (slot % BANK_SIZE))) ∙ long)
+    (shows_mark words busy slot long free.0 shows) free.2
 
 pub due_marks : (words : List ℕ) (busy : Busy) (taken : List ℕ) → length words ≡ 5 → Shows words busy → AreFree busy taken → AreDue slots words (map Mark taken)
 due_marks words busy [] long shows free = tt
 due_marks words busy (slot ∷ taken) long shows free = (
   free_bit words busy slot free.0 shows free.1,
   due_marks (perform slots words (Mark slot)) (with_slot busy slot) taken
-      (length-set words (slot / BANK_SIZE) (bit_or (slice_index words (slot / BANK_SIZE)) (2 ^ (slot % BANK_SIZE))) ∙ long) (shows_mark words busy slot long free.0 shows) free.2,
+      (length-set words (slot / BANK_SIZE) (bit_or (slice_index words (slot / BANK_SIZE)) (2 ^ (slot % BANK_SIZE))) ∙ long)
+      (shows_mark words busy slot long free.0 shows) free.2,
 )

@@ -1,14 +1,8 @@
 -- a job of slots tests at most two words, seizes at most two locks and has at most two effects
-use Rattle.std.proofs.Common.{ℕ, ◌≤◌, length, arith}
-use Rattle.std.specs.Prelude.{Option, Some, None, option_to_list}
-use Rattle.turns.specs.Bounds.{AreBounded, AllEndsHave}
-use Rattle.turns.specs.Script.{◌>>=◌, AsksAtMost}
-use Rattle.slots.specs.System.{and_upper, effects_of, free_in, or_upper, script, slot_steps, slots, upper_steps, upper_too_steps}
-use Rattle.slots.specs.Slots.{both_of}
-use Rattle.slots.specs.declared.decision.Decision.{Decision}
-use Rattle.slots.specs.declared.decision.Decision.TheVariants.{Takes}
-use Rattle.slots.specs.declared.job.Job.{Job}
-use Rattle.slots.specs.declared.job.Job.TheVariants.{Take, TakeBoth, Give}
+use Rattle.std.proofs.Common.{ℕ, ◌≤◌, length, arith, Option, Some, None, option_to_list}
+use Rattle.turns.specs.{Bounds.{AreBounded, AllEndsHave}, Script.{◌>>=◌, AsksAtMost}}
+use Rattle.slots.specs.{System.{and_upper, effects_of, free_in, or_upper, script, slot_steps, slots, upper_steps, upper_too_steps}, Slots.both_of}
+use Rattle.slots.specs.declared.{decision.Decision.{Decision, TheVariants.Takes}, job.Job.{Job, TheVariants.{Take, TakeBoth, Give}}}
 
 abbrev HasFew : Decision → Type 0
 HasFew decision = length (effects_of decision) ≤ 2

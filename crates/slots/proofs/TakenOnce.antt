@@ -1,18 +1,9 @@
 -- a slot that is taken twice was freed in between
-use Rattle.std.proofs.Common.{◌≡◌, ℕ, suc, ◌⊎◌, Bool, true, false, List, [], ◌∷◌, ◌++◌, inl, inr, refl, sym, ◌∙◌, ap, subst}
-use Rattle.std.specs.Prelude.{◌==◌, ◌||◌, ◌&&◌, not, Option, Some, None, option_to_list}
-use Rattle.std.proofs.lemmas.Bool.{eqb-true, eq-eqb}
-use mathlib.Core.Bool.{true≢false}
-use Rattle.turns.specs.Among.{IsIn}
-use Rattle.turns.specs.Law.{IsLegal}
-use Rattle.turns.specs.World.{RecordOf, after}
-use Rattle.slots.specs.declared.bank.TheConstants.{BANK_SIZE, SLOT_COUNT}
-use Rattle.slots.specs.Slots.{Busy, with_slot, with_slots, lowest_free, both_of, whole}
-use Rattle.slots.specs.System.{slots}
-use Rattle.slots.specs.Taken.{Took, IsGivenBack}
-use Rattle.slots.specs.declared.job.Job.{Job}
-use Rattle.slots.specs.declared.job.Job.TheVariants.{Take, TakeBoth, Give}
-use Rattle.slots.proofs.FreeSlots.{lowest_found}
+use Rattle.std.proofs.Common.{◌≡◌, ℕ, suc, ◌⊎◌, Bool, true, false, List, [], ◌∷◌, ◌++◌, inl, inr, refl, sym, ◌∙◌, ap, subst, ◌==◌, ◌||◌, ◌&&◌, not, Option}
+use Rattle.std.proofs.Common.{Some, None, option_to_list, eqb-true, eq-eqb, true≢false}
+use Rattle.{turns.specs.{Among.IsIn, Law.IsLegal, World.{RecordOf, after}}, slots.specs.declared.{bank.TheConstants.{BANK_SIZE, SLOT_COUNT}, job.Job.Job}}
+use Rattle.slots.specs.{declared.job.Job.TheVariants.{Take, TakeBoth, Give}, Slots.{Busy, with_slot, with_slots, lowest_free, both_of, whole}, System.slots}
+use Rattle.slots.{specs.Taken.{Took, IsGivenBack}, proofs.FreeSlots.lowest_found}
 
 or_true : (b : Bool) → (b || true) ≡ true
 or_true true = refl
@@ -39,7 +30,8 @@ found_free busy from count slot None e none = absurd none
 found_free busy from count slot (Some found) e (inl same) = ap busy same ∙ (lowest_found busy from count found e).free
 found_free busy from count slot (Some found) e (inr none) = absurd none
 
-both_found : (busy : Busy) (slot : ℕ) (lower upper : Option ℕ) → lowest_free busy 0 BANK_SIZE ≡ lower → lowest_free busy BANK_SIZE BANK_SIZE ≡ upper → IsIn slot (both_of lower upper) → busy slot ≡ false
+both_found : (busy : Busy) (slot : ℕ) (lower upper : Option ℕ) → lowest_free busy 0 BANK_SIZE ≡ lower → lowest_free busy BANK_SIZE BANK_SIZE ≡ upper
+    → IsIn slot (both_of lower upper) → busy slot ≡ false
 both_found busy slot None upper el eu none = absurd none
 both_found busy slot (Some a) None el eu none = absurd none
 both_found busy slot (Some a) (Some b) el eu (inl same) = ap busy same ∙ (lowest_found busy 0 BANK_SIZE a el).free
@@ -70,11 +62,17 @@ legal_from i state [] rest legal = record { place = i; legal = legal }
 legal_from i state (r ∷ before) rest legal = legal_from (suc i) (whole state r.job).state before rest legal.3
 
 module _ (slot : ℕ) (other : RecordOf slots) (later : List (RecordOf slots)) (took : Took slot other) where
-  given_between : (i : ℕ) (state : Busy) (between : List (RecordOf slots)) → state slot ≡ true → IsLegal slots i state (between ++ other ∷ later) → IsGivenBack slot between
+  given_between : (i : ℕ) (state : Busy) (between : List (RecordOf slots)) → state slot ≡ true → IsLegal slots i state (between ++ other ∷ later)
+      → IsGivenBack slot between
   given_between i state [] taken legal = absurd (true≢false (sym taken ∙ free_before state other.job slot (subst (IsIn slot) legal.2 took)))
-  given_between i state (r ∷ between) taken legal = elim (stays_or_given state r.job slot taken) [ inl given ↦ inl given | inr still ↦ inr (given_between (suc i) (whole state r.job).state between still legal.3) ]
+  given_between i state (r ∷ between) taken legal = elim (stays_or_given state r.job slot taken) [
+    | inl given ↦ inl given
+    | inr still ↦ inr (given_between (suc i) (whole state r.job).state between still legal.3)
+  ]
 
-  pub taken_once : (before between : List (RecordOf slots)) (r : RecordOf slots) (order : List (RecordOf slots)) → IsLegal slots 0 slots.opening order → order ≡ before ++ r ∷ (between ++ other ∷ later) → Took slot r → IsGivenBack slot between
+  pub taken_once : (before between : List (RecordOf slots)) (r : RecordOf slots) (order : List (RecordOf slots)) → IsLegal slots 0 slots.opening order
+      → order ≡ before ++ r ∷ (between ++ other ∷ later) → Took slot r → IsGivenBack slot between
   taken_once before between r order legal is first =
       let from = legal_from 0 slots.opening before (r ∷ (between ++ other ∷ later)) (subst (IsLegal slots 0 slots.opening) is legal) in
-      given_between (suc from.place) (whole (after slots slots.opening before) r.job).state between (taken_after (after slots slots.opening before) r.job slot (subst (IsIn slot) from.legal.2 first)) from.legal.3
+      given_between (suc from.place) (whole (after slots slots.opening before) r.job).state between
+      (taken_after (after slots slots.opening before) r.job slot (subst (IsIn slot) from.legal.2 first)) from.legal.3

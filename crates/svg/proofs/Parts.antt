@@ -1,6 +1,4 @@
-use Rattle.std.proofs.Common.{◌≡◌, ℕ, Bool, true, false, cond, List, [], ◌∷◌, refl, inl, inr}
-use Rattle.std.specs.Prelude.{◌==◌, codes, encode_utf8, flat_map}
-use Rattle.std.specs.Str.{chars}
+use Rattle.std.proofs.Common.{◌≡◌, ℕ, Bool, true, false, cond, List, [], ◌∷◌, refl, inl, inr, ◌==◌, codes, encode_utf8, flat_map, chars}
 use Rattle.svg.specs.Escape.{escaped, escaped_character, is_allowed, plain_character, IsPart, IsContent, Nothing, Behind}
 
 plain_by : (character : ℕ) (allowed : Bool) → is_allowed character ≡ allowed → (character == 38) ≡ false → (character == 60) ≡ false

@@ -4,7 +4,7 @@ ghost use Rattle.svg.specs.Figure.{figure_of, figure_text};
 
 use crate::escape::add_escaped;
 use crate::shape::Shape;
-use crate::write::add_shape;
+use crate::write::add_shapes;
 use std::alloc::AllocError;
 
 /// Adds a whole drawing. If memory runs out, a part of it may have been added.
@@ -87,15 +87,5 @@ pub fn add_group_end(text: &mut String) -> Result<(), AllocError>
     ensures { OnOk result (string_bytes text.new ≡ string_bytes text.old ++ group_end_text) }
 {
     text.push_str("</g>\n")?;
-    Ok(())
-}
-
-fn add_shapes(text: &mut String, shapes: &[Shape<'_>]) -> Result<(), AllocError>
-    ensures { OnOk result (string_bytes text.new ≡ string_bytes text.old ++
-        flat_map figure_text (map figure_of shapes.now)) }
-{
-    for shape in shapes {
-        add_shape(text, shape)?;
-    }
     Ok(())
 }

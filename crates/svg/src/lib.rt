@@ -5,8 +5,8 @@ pub use drawing::{
     add_drawing, add_foot, add_group, add_group_end, add_head, add_named_group, add_open,
 };
 pub use escape::add_escaped;
-pub use shape::{Bend, Point, Shape};
-pub use write::{add_circle, add_copy, add_line, add_rectangle, add_shape, add_trail, add_words};
+pub use shape::{Bend, Point, Shape, ShapeOf};
+pub use write::{add_shape, add_shapes};
 
 mod drawing;
 mod escape;

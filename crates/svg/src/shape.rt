@@ -1,19 +1,6 @@
-/// A point of a drawing, in units from its left and its upper edge.
+/// A point of a drawing, by its units from the left and from the upper edge.
 #[derive(Clone, Copy, Debug, PartialEq, Eq)]
-pub struct Point {
-    pub x: u16,
-    pub y: u16,
-}
-
-impl Point {
-    ghost use Rattle.std.specs.Prelude.{◌≡◌};
-
-    pub fn new(x: u16, y: u16) -> Self
-        ensures { result ≡ record { x = x; y = y } }
-    {
-        Point { x, y }
-    }
-}
+pub struct Point(pub u16, pub u16);
 
 /// How a trail goes on from the point where it is.
 #[derive(Clone, Copy, Debug, PartialEq, Eq)]
@@ -24,42 +11,24 @@ pub enum Bend {
     Curve(Point, Point, Point),
 }
 
-/// A shape of a drawing. The drawing's style sheet says how its class looks.
+/// A shape of a drawing.
+pub type Shape<'a> = ShapeOf<&'a str, &'a [Bend]>;
+
+/// A shape of a drawing. `T` is the type of its texts, and `B` that of its bends. The drawing's
+/// style sheet says how a class looks.
 #[derive(Clone, Copy, Debug)]
-pub enum Shape<'a> {
-    /// A rectangle, by its upper left corner and its size.
-    Rectangle {
-        corner: Point,
-        width: u16,
-        height: u16,
-        class: &'a str,
-    },
-    Line {
-        from: Point,
-        to: Point,
-        class: &'a str,
-    },
-    Circle {
-        center: Point,
-        radius: u16,
-        class: &'a str,
-    },
-    /// A stroke from a point over bends.
-    Trail {
-        from: Point,
-        bends: &'a [Bend],
-        class: &'a str,
-    },
-    /// One line of text. It begins at the point, or has its middle or its end there if its class
-    /// says so.
-    Text {
-        at: Point,
-        class: &'a str,
-        content: &'a str,
-    },
-    /// The group with this name, moved to a point.
-    Copy {
-        at: Point,
-        name: &'a str,
-    },
+pub enum ShapeOf<T, B> {
+    /// A rectangle: its upper left corner, its width, its height and its class.
+    Rectangle(Point, u16, u16, T),
+    /// A line: its two ends and its class.
+    Line(Point, Point, T),
+    /// A circle: its center, its radius and its class.
+    Circle(Point, u16, T),
+    /// A stroke: the point where it begins, its bends and its class.
+    Trail(Point, B, T),
+    /// One line of text: its place, its class and its content. It begins at the place, or has its
+    /// middle or its end there if its class says so.
+    Text(Point, T, T),
+    /// A copy of a group: its place, and the name of the group.
+    Copy(Point, T),
 }

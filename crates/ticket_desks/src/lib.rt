@@ -3,7 +3,7 @@
 
 ghost use Rattle.std.specs.Prelude.{◌≡◌, ◌<◌, ◌+◌, ◌^◌, IfSome, slice_get};
 
-use attempts::{Scripts, Seen};
+use attempts::{OnWords, Scripts, Seen};
 use desk_attempts::{Attempts, Groups, InGroups, OnGroups};
 use tickets::{Decision, Effect, Job};
 use turns::{Clock, LockSharing, Operation, Wanted};
@@ -13,7 +13,7 @@ pub struct TicketScripts;
 
 // change: the most words that a script tests, and the most locks that it seizes, here and below
 /// The jobs as desks do them.
-pub type TicketJobs = Attempts<InGroups<TicketScripts>, 1, 1>;
+pub type TicketJobs = Attempts<TicketScripts, InGroups, 1, 1>;
 
 impl Scripts<1, 1> for TicketScripts {
     ghost use Rattle.attempts.specs.SystemWith.{without_decisions};
@@ -86,21 +86,21 @@ impl Scripts<1, 1> for TicketScripts {
     }
 }
 
-// change: the groups of the words, and what an effect does to which word
-impl OnGroups<1, 1> for TicketScripts {
-    ghost use Rattle.std.specs.Prelude.{refl};
-    ghost use Rattle.tickets.proofs.IsSystem.{asks, tickets_system};
+// change: how many groups of words there are, and how many words each has
+const GROUPS: Groups = Groups { count: 1, each: 1 };
 
-    type Kept = ();
+// change: what an effect does to which word
+impl OnWords<1, 1> for TicketScripts {
+    fn size(_setting: &()) -> usize {
+        GROUPS.size()
+    }
 
-    ghost kept = { λ unit. unit };
+    fn lock_word(_setting: &(), lock: u32) -> usize {
+        GROUPS.lock_word(lock)
+    }
 
-    fn keep(_setting: &()) {}
-
-    ghost groups_of = { λ _. record { count = 1; each = 1 } };
-
-    fn groups(_setting: &()) -> Groups {
-        Groups { count: 1, each: 1 }
+    fn turn_word(_setting: &()) -> usize {
+        GROUPS.turn_word()
     }
 
     // change: as in the system
@@ -114,6 +114,24 @@ impl OnGroups<1, 1> for TicketScripts {
 
     fn effect_operation(_setting: &(), _effect: Effect) -> Operation {
         Operation::Add(1)
+    }
+}
+
+// change: what is kept of the setting
+impl OnGroups<1, 1> for TicketScripts {
+    ghost use Rattle.std.specs.Prelude.{refl};
+    ghost use Rattle.tickets.proofs.IsSystem.{asks, tickets_system};
+
+    type Kept = ();
+
+    ghost kept = { λ unit. unit };
+
+    fn keep(_setting: &()) {}
+
+    ghost groups_of = { λ _. record { count = 1; each = 1 } };
+
+    fn groups(_setting: &()) -> Groups {
+        GROUPS
     }
 
     // change: which lemmas say that the jobs are a system, and how much a script asks for

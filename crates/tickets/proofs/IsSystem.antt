@@ -1,16 +1,9 @@
 -- the jobs are a system
-use Rattle.std.proofs.Common.{◌≡◌, ℕ, ◌+◌, ◌%◌, ◌^◌, List, [], ◌∷◌, length, slice_index, inl, refl, sym, ◌∙◌, arith}
-use Rattle.std.specs.Prelude.{Err}
-use Rattle.turns.specs.Script.{◌>>=◌, AsksAtMost, run, first_wanted}
-use Rattle.turns.specs.System.{IsSystem, IsUnder, MayMake, KeepsTo, DecidesAs, DecidesUnder, perform_all}
-use Rattle.turns.specs.declared.wanted.Wanted.TheVariants.{Seize}
-use Rattle.turns.proofs.Layouts.{ones_are, words_apart, zeros_open}
-use Rattle.turns.proofs.OwnSystem.{index_same, makes_more, makes_none, same_number, under_its_lock}
-use Rattle.turns.proofs.Preferring.{preferring_is, zero_unused}
-use Rattle.tickets.specs.System.{Shows, layout, script, tickets, tickets_jobs, whole}
-use Rattle.tickets.specs.declared.jobs.Effect.TheVariants.{AddOne}
-use Rattle.tickets.specs.declared.jobs.Job.{Job}
-use Rattle.tickets.specs.declared.jobs.Job.TheVariants.{Take, Look}
+use Rattle.std.proofs.Common.{◌≡◌, ℕ, ◌+◌, ◌%◌, ◌^◌, List, [], ◌∷◌, length, slice_index, inl, refl, sym, ◌∙◌, arith, Err}
+use Rattle.turns.specs.{Script.{◌>>=◌, AsksAtMost, run, first_wanted}, System.{IsSystem, IsUnder, MayMake, KeepsTo, DecidesAs, DecidesUnder, perform_all}}
+use Rattle.turns.{specs.declared.wanted.Wanted.TheVariants.Seize, proofs.{Layouts.{ones_are, words_apart, zeros_open}, OwnSystem.{index_same, makes_more}}}
+use Rattle.{turns.proofs.{OwnSystem.{makes_none, same_number, under_its_lock}, Preferring.{preferring_is, zero_unused}}, tickets.specs.System.{Shows, layout}}
+use Rattle.tickets.specs.{System.{script, tickets, tickets_jobs, whole}, declared.jobs.{Effect.TheVariants.AddOne, Job.{Job, TheVariants.{Take, Look}}}}
 
 -- change: the lock of a word, and that effects are on words under locks that are held
 word_under : IsUnder tickets (0 ∷ []) 0

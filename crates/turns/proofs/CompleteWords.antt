@@ -2,14 +2,9 @@
 use Rattle.std.proofs.Common.{◌≡◌, ℕ, suc, List, [], ◌∷◌, refl, ap, ◌∙◌, subst}
 use mathlib.Core.Option.{some}
 use lib.ListN.{get_elem?}
-use Rattle.turns.specs.System.{System}
-use Rattle.turns.specs.Attempt.{AttemptOf, effects_left_in}
-use Rattle.turns.specs.World.{World, ActorOf, Idle, Does, effects_left_of, value_after, completed_word, completed_from, after}
-use Rattle.turns.specs.Law.{IsAvailable, Lawful}
-use Rattle.turns.specs.declared.phase.Phase.{Phase}
-use Rattle.turns.specs.declared.phase.Phase.TheVariants.{Requests, Seizes, Tests, Turns, Withdraws, GivesBack, Operates}
-use Rattle.turns.proofs.Completed.{all_spare}
-use Rattle.turns.proofs.Moving.{rest_bare}
+use Rattle.turns.specs.{System.System, Attempt.{AttemptOf, effects_left_in}, World.{World, ActorOf, Idle, Does, effects_left_of, value_after, completed_word}}
+use Rattle.turns.specs.{World.{completed_from, after}, Law.{IsAvailable, Lawful}, declared.phase.Phase.{Phase, TheVariants.{Requests, Seizes, Tests, Turns}}}
+use Rattle.turns.{specs.declared.phase.Phase.TheVariants.{Withdraws, GivesBack, Operates}, proofs.{Completed.all_spare, Moving.rest_bare}}
 
 module _ (O : System) where
   open O use {Lock, Effect}

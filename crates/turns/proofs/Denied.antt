@@ -1,16 +1,9 @@
 -- an actor is denied a lock by the judgement of that lock's word
-use Rattle.std.proofs.Common.{◌≡◌, ℕ, Bool, true, false, inl, inr, refl, ap, ◌∙◌, subst}
-use Rattle.std.specs.Prelude.{◌==◌, ⊤, if◌then◌else◌}
-use Rattle.std.proofs.lemmas.Bool.{eqb-false}
-use Rattle.turns.specs.Sharing.{with_request}
-use Rattle.turns.specs.System.{System}
-use Rattle.turns.specs.Attempt.{answer_to, unless_denied}
-use Rattle.turns.specs.declared.act.Act.{Act}
-use Rattle.turns.specs.declared.act.Act.TheVariants.{Finished, Request, Seize, Withdraw, Free as FreeAct, Test, Turn as TurnAct, Make}
+use Rattle.std.proofs.Common.{◌≡◌, ℕ, Bool, true, false, inl, inr, refl, ap, ◌∙◌, subst, ◌==◌, if◌then◌else◌}
+use Rattle.{std.{specs.Prelude.⊤, proofs.lemmas.Bool.eqb-false}, turns.specs.{Sharing.with_request, System.System, Attempt.{answer_to, unless_denied}}}
+use Rattle.turns.specs.declared.act.Act.{Act, TheVariants.{Finished, Request, Seize, Withdraw, Free as FreeAct, Test, Turn as TurnAct, Make}}
+use Rattle.turns.specs.declared.{answer.Answer.{Answer, TheVariants.{Asked, Seized, Held, Preferred, Again, Value, Turn, Done}}, judgement.Judgement.Judgement}
 use Rattle.turns.specs.Denied.{IsDeniedBy}
-use Rattle.turns.specs.declared.answer.Answer.{Answer}
-use Rattle.turns.specs.declared.answer.Answer.TheVariants.{Asked, Seized, Held, Preferred, Again, Value, Turn, Done}
-use Rattle.turns.specs.declared.judgement.Judgement.{Judgement}
 use Rattle.turns.specs.declared.judgement.Judgement.TheVariants as judgement
 
 -- an answer that denies no lock

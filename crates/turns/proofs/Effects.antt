@@ -1,41 +1,38 @@
-use Rattle.std.proofs.Common.{◌≡◌, ◌≢◌, ℕ, ◌<◌, ◌≤◌, ◌⊎◌, List, [], ◌∷◌, ◌++◌, length, set, slice_index, slice_set, sym, refl, ap, inl, inr, ◌∙◌, subst, length-set, append_assoc}
-use Rattle.std.specs.Prelude.{Option}
+use Rattle.std.proofs.Common.{◌≡◌, ◌≢◌, ℕ, ◌<◌, ◌≤◌, ◌⊎◌, List, [], ◌∷◌, ◌++◌, length, set, slice_index, slice_set, sym, refl, ap, inl, inr, ◌∙◌, subst}
+use Rattle.std.proofs.Common.{length-set, append_assoc, Option}
 use mathlib.Core.Option.{some}
 use lib.ListN.{get_elem?}
-use Rattle.turns.specs.System.{System, effect_on, IsSystem, AreWords, IsUnder, AreUnder}
-use Rattle.turns.specs.Clock.{IsCount}
-use Rattle.turns.specs.Attempt.{AttemptOf, IsValid}
+use Rattle.turns.specs.{System.{System, effect_on, IsSystem, AreWords, IsUnder, AreUnder}, Clock.IsCount, Attempt.{AttemptOf, IsValid}}
 use Rattle.turns.specs.World.{World, ActorOf, Idle, Does, effects_left_of, value_after, completed, completed_word}
-use Rattle.turns.specs.Law.{IsOperating, IsSound, Lawful, holder_at, word_at}
-use Rattle.turns.specs.declared.phase.Phase.TheVariants.{Operates}
-use Rattle.turns.specs.declared.reading.Reading.{Reading}
-use Rattle.turns.proofs.Lists.{in_more, one_or_two, set_here, set_else, index_same, index_other}
-use Rattle.turns.proofs.Completed.{Spares, made_append, made_here, made_else, under_spares, only_one, same_done}
-use Rattle.turns.proofs.Words.{applied_below, set_below}
-use Rattle.turns.proofs.Sound.{sound_along, left_under, one_actor}
-use Rattle.turns.proofs.Settings.{all_sound, renewed, shared_on}
-use Rattle.turns.proofs.Quiet.{alike, few_actors}
-use Rattle.turns.proofs.Locking.{no_lock_word, no_turn}
+use Rattle.turns.specs.{Law.{IsOperating, IsSound, Lawful, holder_at, word_at}, declared.{phase.Phase.TheVariants.Operates, reading.Reading.Reading}}
+use Rattle.turns.proofs.{Lists.{in_more, one_or_two, set_here, set_else, index_same, index_other}, Completed.{Spares, made_append, made_here, made_else}}
+use Rattle.turns.proofs.{Completed.{under_spares, only_one, same_done}, Words.{applied_below, set_below}, Sound.{sound_along, left_under, one_actor}}
+use Rattle.turns.proofs.{Settings.{all_sound, renewed, shared_on}, Quiet.{alike, few_actors}, Locking.{no_lock_word, no_turn}}
 
 module _ (O : System) (system : IsSystem O) (w : World O) (law : Lawful O w) (k number : ℕ) where
   open O use {Lock, Job, Reply, Effect, IsLock, lock_word, effect_word}
 
   -- a word under a lock of actor k is spared by all other actors
-  pub others_spare : (a : AttemptOf O) → get_elem? w.actors k ≡ some (Does number a) → (n : ℕ) → IsUnder O a.held n → (j : ℕ) (other : ActorOf O) → j ≢ k → get_elem? w.actors j ≡ some other → Spares O (effects_left_of O other) n
+  pub others_spare : (a : AttemptOf O) → get_elem? w.actors k ≡ some (Does number a) → (n : ℕ) → IsUnder O a.held n → (j : ℕ) (other : ActorOf O) → j ≢ k
+      → get_elem? w.actors j ≡ some other → Spares O (effects_left_of O other) n
   others_spare a there n under j Idle apart at = λ v. refl
   others_spare a there n under j (Does i b) apart at =
       let s = law.sound j i b at in
       under_spares O b.held _ n (left_under O w j i b s) (λ over. apart (one_actor O system w j k n i number b a s (law.sound k number a there) over under))
 
   -- .. also once actor k has moved
-  pub others_spare_then : (a new : AttemptOf O) → get_elem? w.actors k ≡ some (Does number a) → (n : ℕ) → IsUnder O a.held n → (j : ℕ) (other : ActorOf O) → j ≢ k → get_elem? (set w.actors k (Does number new)) j ≡ some other → Spares O (effects_left_of O other) n
+  pub others_spare_then : (a new : AttemptOf O) → get_elem? w.actors k ≡ some (Does number a) → (n : ℕ) → IsUnder O a.held n → (j : ℕ) (other : ActorOf O)
+      → j ≢ k → get_elem? (set w.actors k (Does number new)) j ≡ some other → Spares O (effects_left_of O other) n
   others_spare_then a new there n under j other apart at = others_spare a there n under j other apart (sym (set_else w.actors k j (Does number new) apart) ∙ at)
 
   -- past its turn
   abbrev pub operating : Job → List (Reading ℕ) → List Lock → ℕ → Option Reply → List Effect → AttemptOf O
-  operating job readings held turn reply effects = record { job = job; readings = readings; held = held; phase = Operates turn; reply = reply; effects = effects }
+  operating job readings held turn reply effects =
+      record { job = job; readings = readings; held = held; phase = Operates turn; reply = reply; effects = effects }
 
-  module _ (job : Job) (readings : List (Reading ℕ)) (held : List Lock) (turn : ℕ) (reply : Option Reply) (effect : Effect) (effects : List Effect) (there : get_elem? w.actors k ≡ some (Does number (operating job readings held turn reply (effect ∷ effects)))) (valid : IsValid O (operating job readings held turn reply effects)) where
+  module _ (job : Job) (readings : List (Reading ℕ)) (held : List Lock) (turn : ℕ) (reply : Option Reply) (effect : Effect) (effects : List Effect)
+      (there : get_elem? w.actors k ≡ some (Does number (operating job readings held turn reply (effect ∷ effects))))
+      (valid : IsValid O (operating job readings held turn reply effects)) where
     abbrev old : AttemptOf O
     old = operating job readings held turn reply (effect ∷ effects)
 
@@ -73,7 +70,9 @@ module _ (O : System) (system : IsSystem O) (w : World O) (law : Lawful O w) (k 
     long = length-set w.words p (effect_on O effect (slice_index w.words p)) ∙ law.size
 
     are_words : AreWords other
-    are_words = set_below w.words p (effect_on O effect (slice_index w.words p)) law.are_words (applied_below (O.operation_of effect) (slice_index w.words p) (fits.fit effect (inl refl)) (law.are_words p))
+    are_words =
+        set_below w.words p (effect_on O effect (slice_index w.words p)) law.are_words
+        (applied_below (O.operation_of effect) (slice_index w.words p) (fits.fit effect (inl refl)) (law.are_words p))
 
     -- the words under the locks held are what the effects made so far, and this one, make of the
     -- words at the turn
@@ -84,7 +83,8 @@ module _ (O : System) (system : IsSystem O) (w : World O) (law : Lawful O w) (k 
 
       by : (p ≡ n) ⊎ (p ≢ n) → slice_index other n ≡ value_after O (effect ∷ []) n v
       by (inl e) =
-          subst (λ (m : ℕ). slice_index other m ≡ effect_on O effect (slice_index w.words m)) e (index_same w.words p (effect_on O effect (slice_index w.words p)) p_there)
+          subst (λ (m : ℕ). slice_index other m ≡ effect_on O effect (slice_index w.words m)) e
+          (index_same w.words p (effect_on O effect (slice_index w.words p)) p_there)
           ∙ ap (effect_on O effect) (fits.decided.since n over)
           ∙ sym (made_here O effect [] n v e)
       by (inr apart) = else_same n (λ e. apart (sym e)) ∙ fits.decided.since n over ∙ sym (made_else O effect [] n v apart)
@@ -111,8 +111,26 @@ module _ (O : System) (system : IsSystem O) (w : World O) (law : Lawful O w) (k 
             under = λ e within. fits.under e (inr within);
             fit = λ e within. fits.fit e (inr within);
             due = fits.due.1;
-            recorded = record { place = known.place; recorded = known.recorded; at_place = known.at_place; turn_is = known.turn_is; actor = known.actor; number_is = known.number_is; job = known.job; reply = known.reply };
-            decided = record { words = decided.words; size = decided.size; are_words = decided.are_words; shows = decided.shows; made = decided.made ++ effect ∷ []; effects = decided.effects ∙ sym (append_assoc decided.made (effect ∷ []) effects); under = λ e left. made_under; since = since };
+            recorded = record {
+              place = known.place;
+              recorded = known.recorded;
+              at_place = known.at_place;
+              turn_is = known.turn_is;
+              actor = known.actor;
+              number_is = known.number_is;
+              job = known.job;
+              reply = known.reply;
+            };
+            decided = record {
+              words = decided.words;
+              size = decided.size;
+              are_words = decided.are_words;
+              shows = decided.shows;
+              made = decided.made ++ effect ∷ [];
+              effects = decided.effects ∙ sym (append_assoc decided.made (effect ∷ []) effects);
+              under = λ e left. made_under;
+              since = since;
+            };
           };
         }
 
@@ -121,22 +139,30 @@ module _ (O : System) (system : IsSystem O) (w : World O) (law : Lawful O w) (k 
       this = law.size;
       that = long;
       holders = λ lock is within. holders lock is;
-      under = λ n over. else_same n (λ e. apart (one_actor O system w j k n i number b old (law.sound j i b at) (law.sound k number old there) over (subst (λ (m : ℕ). IsUnder O held m) (sym e) under)));
+      under =
+          λ n over. else_same n (λ e. apart (one_actor O system w j k n i number b old (law.sound j i b at) (law.sound k number old there) over
+          (subst (λ (m : ℕ). IsUnder O held m) (sym e) under)));
       order = λ place r e. e;
     }) (law.sound j i b at)
 
     -- the completed word is as it was: the one that the effect was made on, and any other
-    word_same : (n : ℕ) → (p ≡ n) ⊎ (p ≢ n) → completed_word O w.actors n (slice_index w.words n) ≡ completed_word O (set w.actors k (Does number new)) n (slice_index other n)
+    word_same : (n : ℕ) → (p ≡ n) ⊎ (p ≢ n)
+        → completed_word O w.actors n (slice_index w.words n) ≡ completed_word O (set w.actors k (Does number new)) n (slice_index other n)
     word_same n (inl e) =
         let within : IsUnder O held n = subst (λ (m : ℕ). IsUnder O held m) e under in
         let v = slice_index w.words n in
         let before = only_one O w.actors k n v (Does number old) there (others_spare old there n within) in
-        let later = only_one O (set w.actors k (Does number new)) k n (slice_index other n) (Does number new) (set_here w.actors k (Does number new) (Does number old) there) (others_spare_then old new there n within) in
-        let now : slice_index other n ≡ effect_on O effect v = subst (λ (m : ℕ). slice_index other m ≡ effect_on O effect (slice_index w.words m)) e (index_same w.words p (effect_on O effect (slice_index w.words p)) p_there) in
+        let later =
+        only_one O (set w.actors k (Does number new)) k n (slice_index other n) (Does number new)
+        (set_here w.actors k (Does number new) (Does number old) there) (others_spare_then old new there n within) in
+        let now : slice_index other n ≡ effect_on O effect v =
+        subst (λ (m : ℕ). slice_index other m ≡ effect_on O effect (slice_index w.words m)) e
+        (index_same w.words p (effect_on O effect (slice_index w.words p)) p_there) in
         before ∙ made_here O effect effects n v e ∙ sym (later ∙ ap (value_after O effects n) now)
     word_same n (inr apart) =
         let v = slice_index w.words n in
-        sym (ap (completed_word O (set w.actors k (Does number new)) n) (else_same n (λ e. apart (sym e))) ∙ same_done O w.actors k n v (Does number old) (Does number new) there (λ x. sym (made_else O effect effects n x apart)))
+        sym (ap (completed_word O (set w.actors k (Does number new)) n) (else_same n (λ e. apart (sym e)))
+        ∙ same_done O w.actors k n v (Does number old) (Does number new) there (λ x. sym (made_else O effect effects n x apart)))
 
     -- actor k makes its next effect
     pub makes : Lawful O then
@@ -144,9 +170,13 @@ module _ (O : System) (system : IsSystem O) (w : World O) (law : Lawful O w) (k 
       few = subst (λ (l : ℕ). l ≤ O.sharing.most) (sym (length-set w.actors k (Does number new))) law.few;
       size = long;
       are_words = are_words;
-      turn = subst (λ (n : ℕ). IsCount O.clock n (length w.order)) (sym (else_same O.turn_word (λ e. no_turn O system p under.lock under.protects (sym e)))) law.turn;
+      turn =
+          subst (λ (n : ℕ). IsCount O.clock n (length w.order)) (sym (else_same O.turn_word (λ e. no_turn O system p under.lock under.protects (sym e))))
+          law.turn;
       legal = law.legal;
       shows = system.looks (completed O w) (completed O then) _ (alike O system w then law.size long (λ n lock e. word_same n (one_or_two p n))) law.shows;
       sound = all_sound O w k (Does number old) there other w.order number new own others;
-      shared = λ lock is. shared_on O w k (Does number old) there other w.order number new lock (law.shared lock is) (lock_words lock is) (λ within. within) ((λ e. e), (λ e. e)) (few_actors O w law k (Does number old) there);
+      shared =
+          λ lock is. shared_on O w k (Does number old) there other w.order number new lock (law.shared lock is) (lock_words lock is) (λ within. within)
+          ((λ e. e), (λ e. e)) (few_actors O w law k (Does number old) there);
     }

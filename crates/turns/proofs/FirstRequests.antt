@@ -1,13 +1,9 @@
 -- the first of the requests in a lock's word
-use Rattle.std.proofs.Common.{◌≡◌, ℕ, zero, suc, ◌+◌, ◌-◌, ◌*◌, ◌^◌, ◌<◌, ◌≤◌, Bool, true, false, bit_and, pow_mono, mod-eq_of_lt, inl, inr, sym, refl, ◌∙◌, ap, arith}
-use Rattle.std.proofs.lemmas.Bool.{cases_lt}
-use Rattle.std.proofs.lemmas.Nat.{and_le_l}
-use Rattle.std.proofs.lemmas.Nat.Bits.{bit_at_and, bit_at-lt, bit_at-zero, bit_at-trailing_zeros, bit_at_mask_above, bit_at_mask_below, bit_at_mask_inside}
-use Rattle.std.specs.Prelude.{◌==◌, ◌%◌, Option, Some, None, if◌then◌else◌}
-use Rattle.std.specs.Int.{bit_at, trailing_zeros, w64}
-use Rattle.turns.specs.Sharing.{IsTrueOf}
-use Rattle.turns.specs.Sharings.{first_request, lower_request, by_request, by_holder, judged, preferring}
-use Rattle.turns.specs.declared.judgement.Judgement.TheVariants.{Free}
+use Rattle.std.proofs.Common.{◌≡◌, ℕ, zero, suc, ◌+◌, ◌-◌, ◌*◌, ◌^◌, ◌<◌, ◌≤◌, Bool, true, false, bit_and, pow_mono, mod-eq_of_lt, inl, inr, sym, refl, ◌∙◌, ap}
+use Rattle.std.proofs.Common.{arith, ◌==◌, ◌%◌, Option, Some, None, if◌then◌else◌, w64}
+use Rattle.std.proofs.lemmas.{Bool.cases_lt, Nat.{and_le_l, Bits.{bit_at_and, bit_at-lt, bit_at-zero, bit_at-trailing_zeros, bit_at_mask_above}}}
+use Rattle.{std.{proofs.lemmas.Nat.Bits.{bit_at_mask_below, bit_at_mask_inside}, specs.Int.{bit_at, trailing_zeros}}, turns.specs.Sharing.IsTrueOf}
+use Rattle.turns.specs.{Sharings.{first_request, lower_request, by_request, by_holder, judged, preferring}, declared.judgement.Judgement.TheVariants.Free}
 
 -- whether the word has actor k's request
 abbrev valid : ℕ → ℕ → Bool
@@ -22,7 +18,8 @@ later_found : (word j count : ℕ) (found : Option ℕ) → IsFound word (suc j)
 later_found word j count None is = tt
 later_found word j count (Some other) is = (omega (arith, is.0), is.1)
 
-here_found : (word j count : ℕ) (b : Bool) → valid word j ≡ b → IsFound word (suc j) count (first_request word (suc j) count) → IsFound word j (suc count) (if b then Some j else first_request word (suc j) count)
+here_found : (word j count : ℕ) (b : Bool) → valid word j ≡ b → IsFound word (suc j) count (first_request word (suc j) count)
+    → IsFound word j (suc count) (if b then Some j else first_request word (suc j) count)
 here_found word j count true e later = (omega arith, e)
 here_found word j count false e later = later_found word j count (first_request word (suc j) count) later
 
@@ -34,10 +31,12 @@ first_found word j (suc count) = here_found word j count (valid word j) refl (fi
 pub none_found : (word j count : ℕ) → ((i : ℕ) → j ≤ i → i < j + count → valid word i ≡ false) → first_request word j count ≡ None
 none_found word j zero none = refl
 none_found word j (suc count) none =
-    ap (λ (b : Bool). if b then Some j else first_request word (suc j) count) (none j (omega arith) (omega arith)) ∙ none_found word (suc j) count (λ i from below. none i (omega arith) (omega arith))
+    ap (λ (b : Bool). if b then Some j else first_request word (suc j) count) (none j (omega arith) (omega arith))
+    ∙ none_found word (suc j) count (λ i from below. none i (omega arith) (omega arith))
 
 -- there is one, and none before it: it is found
-pub one_found : (word j count step : ℕ) → step < count → valid word (j + step) ≡ true → ((i : ℕ) → j ≤ i → i < j + step → valid word i ≡ false) → first_request word j count ≡ Some (j + step)
+pub one_found : (word j count step : ℕ) → step < count → valid word (j + step) ≡ true → ((i : ℕ) → j ≤ i → i < j + step → valid word i ≡ false)
+    → first_request word j count ≡ Some (j + step)
 one_found word j zero step below one none = absurd (omega arith)
 one_found word j (suc count) zero below one none =
     let here : j + 0 ≡ j = omega arith in
@@ -64,7 +63,8 @@ masked k word = bit_and word (2 ^ (8 + k) - 2 ^ 8)
 
 -- the bit above them fits a word
 pub shifted : (k : ℕ) → k < 48 → 1 * 2 ^ (8 + k) % 2 ^ 64 ≡ 2 ^ (8 + k)
-shifted k few = let high = pow_mono {i = 8 + k} {j = 55} (omega arith) in let one : 1 * 2 ^ (8 + k) ≡ 2 ^ (8 + k) = omega arith in ap (λ (n : ℕ). n % 2 ^ 64) one ∙ mod-eq_of_lt (omega (arith, high))
+shifted k few = let high = pow_mono {i = 8 + k} {j = 55} (omega arith) in let one : 1 * 2 ^ (8 + k) ≡ 2 ^ (8 + k) = omega arith in
+    ap (λ (n : ℕ). n % 2 ^ 64) one ∙ mod-eq_of_lt (omega (arith, high))
 
 pub shifted_from : (k : ℕ) → k < 48 → 256 ≤ 1 * 2 ^ (8 + k) % 2 ^ 64
 shifted_from k few = let low = pow_mono {i = 8} {j = 8 + k} (omega arith) in omega (arith, shifted k few, low)
@@ -98,7 +98,8 @@ masked_none k word none = lower_none k word (λ i below.
     ap (λ (n : ℕ). n == 1) zero_bit)
 
 -- otherwise its lowest bit is the request of the lowest that does
-pub masked_first : (k word : ℕ) → word < 2 ^ 64 → 0 < masked k word → (8 ≤ trailing_zeros w64 (masked k word)) × (lower_request k word ≡ Some (trailing_zeros w64 (masked k word) - 8))
+pub masked_first : (k word : ℕ) → word < 2 ^ 64 → 0 < masked k word
+    → (8 ≤ trailing_zeros w64 (masked k word)) × (lower_request k word ≡ Some (trailing_zeros w64 (masked k word) - 8))
 masked_first k word fits some =
     let low = masked k word in
     let first = bit_at-trailing_zeros w64 low some (masked_fits k word fits) in
@@ -128,7 +129,8 @@ judged_true k word = true_by_holder k word (word % 64) (first_request word 0 k) 
 -- an actor may go on if it alone requests a lock that nobody holds
 pub alone_free : (k word : ℕ) → k < 48 → word % 64 ≡ 0 → ((j : ℕ) → j < 48 → valid word j ≡ true → j ≡ k) → judged k word ≡ Free
 unfolding judged
-alone_free k word few free alone = ap (λ holder. by_holder holder (lower_request k word)) free ∙ ap by_request (lower_none k word (λ i below. none i below (valid word i) refl)) where
-  none : (i : ℕ) → i < k → (b : Bool) → valid word i ≡ b → valid word i ≡ false
-  none i below false e = e
-  none i below true e = let same : i ≡ k = alone i (omega arith) e in absurd (omega arith)
+alone_free k word few free alone =
+    ap (λ holder. by_holder holder (lower_request k word)) free ∙ ap by_request (lower_none k word (λ i below. none i below (valid word i) refl)) where
+      none : (i : ℕ) → i < k → (b : Bool) → valid word i ≡ b → valid word i ≡ false
+      none i below false e = e
+      none i below true e = let same : i ≡ k = alone i (omega arith) e in absurd (omega arith)

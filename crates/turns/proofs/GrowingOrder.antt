@@ -1,11 +1,9 @@
 -- whatever moves are made, the order before them begins the order after them
-use Rattle.std.proofs.Common.{◌≡◌, ℕ, Bool, true, false, List, [], ◌∷◌, ◌++◌, append-nil, append_assoc, refl, sym, ap, ◌∙◌}
-use Rattle.std.specs.Prelude.{if◌then◌else◌}
+use Rattle.std.proofs.Common.{◌≡◌, ℕ, Bool, true, false, List, [], ◌∷◌, ◌++◌, append-nil, append_assoc, refl, sym, ap, ◌∙◌, if◌then◌else◌}
 use mathlib.Core.Option.{Option, some, none}
 use lib.ListN.{get_elem?}
-use Rattle.turns.specs.System.{System}
-use Rattle.turns.specs.World.{World, ActorOf, RecordOf, Idle, Does, added, assigned}
-use Rattle.turns.specs.Runs.{Move, Assigns, Steps, Backs, is_available, assigned_at, stepped_at, backed_at, after_move, run_from}
+use Rattle.turns.specs.{System.System, World.{World, ActorOf, RecordOf, Idle, Does, added, assigned}}
+use Rattle.turns.specs.Runs.{Move, Assigns, Steps, Restarts, is_available, assigned_at, stepped_at, restarted_at, after_move, run_from}
 
 module _ (O : System) where
   -- the order of one world begins that of another
@@ -30,7 +28,7 @@ module _ (O : System) where
   stepped_grows w k (some (Does number a)) = (added O k number a w, refl)
 
   backed_grows : (w : World O) (k : ℕ) (found : Option (ActorOf O))
-      → Grows w (backed_at O k found w)
+      → Grows w (restarted_at O k found w)
   backed_grows w k none = grows_by_none w
   backed_grows w k (some Idle) = grows_by_none w
   backed_grows w k (some (Does number a)) = grows_by_none w
@@ -38,7 +36,7 @@ module _ (O : System) where
   pub move_grows : (w : World O) (move : Move O.Job) → Grows w (after_move O w move)
   move_grows w (Assigns k number job) = assigned_grows w k number job (get_elem? w.actors k)
   move_grows w (Steps k) = stepped_grows w k (get_elem? w.actors k)
-  move_grows w (Backs k) = backed_grows w k (get_elem? w.actors k)
+  move_grows w (Restarts k) = backed_grows w k (get_elem? w.actors k)
 
   pub run_grows : (w : World O) (moves : List (Move O.Job)) → Grows w (run_from O w moves)
   run_grows w [] = grows_by_none w

@@ -1,16 +1,9 @@
 -- an attempt frees locks in giving back or once its effects are made, and keeps them until then
-use Rattle.std.proofs.Common.{◌≡◌, ◌≢◌, ◌⊎◌, ℕ, Bool, true, false, List, [], ◌∷◌, ◌++◌, inl, inr, refl, sym, ap, subst}
-use Rattle.std.specs.Prelude.{if◌then◌else◌}
-use Rattle.turns.specs.Among.{IsIn}
-use Rattle.turns.specs.System.{System}
-use Rattle.turns.specs.Attempt.{AttemptOf, act, act_in, change, changed, closing_act, denied, forgotten, free_act, giving_back, operated, rest_of, walks_on}
-use Rattle.turns.specs.declared.act.Act.TheVariants.{Free}
-use Rattle.turns.specs.declared.answer.Answer.{Answer}
-use Rattle.turns.specs.declared.answer.Answer.TheVariants.{Asked, Seized, Held, Preferred, Again, Value, Turn, Done}
-use Rattle.turns.specs.declared.phase.Phase.{Phase}
-use Rattle.turns.specs.declared.phase.Phase.TheVariants.{Requests, Seizes, Tests, Turns, Withdraws, GivesBack, Operates}
-use Rattle.turns.proofs.Lists.{in_front}
-use Rattle.turns.proofs.Sound.{freed_held, walks_held}
+use Rattle.std.proofs.Common.{◌≡◌, ◌≢◌, ◌⊎◌, ℕ, Bool, true, false, List, [], ◌∷◌, ◌++◌, inl, inr, refl, sym, ap, subst, if◌then◌else◌}
+use Rattle.turns.specs.{Among.IsIn, System.System, Attempt.{AttemptOf, act, act_in, change, changed, closing_act, denied, forgotten, free_act, giving_back}}
+use Rattle.turns.specs.{Attempt.{operated, rest_of, walks_on}, declared.{act.Act.TheVariants.Free, answer.Answer.{Answer, TheVariants.{Asked, Seized, Held}}}}
+use Rattle.turns.specs.declared.{answer.Answer.TheVariants.{Preferred, Again, Value, Turn, Done}, phase.Phase.{Phase, TheVariants.{Requests, Seizes, Tests}}}
+use Rattle.turns.{specs.declared.phase.Phase.TheVariants.{Turns, Withdraws, GivesBack, Operates}, proofs.{Lists.in_front, Sound.{freed_held, walks_held}}}
 
 module _ (O : System) where
   open O use {Lock, Effect}

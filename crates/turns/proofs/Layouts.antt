@@ -1,12 +1,7 @@
 -- words that are laid out in groups are apart, and open as a system's words do
-use Rattle.std.proofs.Common.{ℕ, ◌+◌, ◌<◌, sym, ◌∙◌, subst, arith}
-use Rattle.std.proofs.lemmas.List.{length-replicate}
-use Rattle.std.proofs.Math.Nat.{div-lt_iff_lt-mul}
-use Rattle.turns.specs.Layouts.{Layout, JobsOver, IsLayout, in_rows, one_each, size_of, zeros_of, laid_out}
-use Rattle.turns.specs.Sharing.{IsUnused}
-use Rattle.turns.specs.System.{AreApart, IsInitial, system_of}
-use Rattle.turns.proofs.OwnSystem.{zero_at}
-use Rattle.turns.proofs.Words.{zeros_below}
+use Rattle.std.proofs.Common.{ℕ, ◌+◌, ◌<◌, sym, ◌∙◌, subst, arith, div-lt_iff_lt-mul}
+use Rattle.{std.proofs.lemmas.List.length-replicate, turns.specs.Layouts.{Layout, JobsOver, IsLayout, in_rows, one_each, size_of, zeros_of, laid_out}}
+use Rattle.turns.{specs.{Sharing.IsUnused, System.{AreApart, IsInitial, system_of}}, proofs.{OwnSystem.zero_at, Words.zeros_below}}
 
 -- rows of words are a layout, and so are single words
 pub rows_are : (groups each : ℕ) → 0 < each → IsLayout (in_rows groups each)

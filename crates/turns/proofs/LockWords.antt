@@ -1,16 +1,11 @@
 -- the bits of a lock's word: the lowest six name its holder, and each actor's request is a bit of
 -- its own
-use Rattle.std.proofs.Common.{◌≡◌, ◌≢◌, ℕ, suc, ◌+◌, ◌-◌, ◌*◌, ◌^◌, ◌%◌, ◌<◌, ◌≤◌, ◌⊎◌, Bool, true, false, inl, inr, sym, refl, ap, ◌∙◌, arith, bit_and, bit_or, pow-add, pow_mono, mod-eq_of_lt, mod-lt}
-use Rattle.std.specs.Prelude.{◌==◌, min}
-use Rattle.std.specs.Int.{bit_at, w64}
-use Rattle.std.specs.Int.Bits.{or_zero_l, or_zero_r, and_lt}
-use Rattle.std.proofs.Math.Nat.{mul-mod_right}
-use Rattle.std.proofs.lemmas.Nat.{or_mod, and_mod, and_mask, or_lt}
+use Rattle.std.proofs.Common.{◌≡◌, ◌≢◌, ℕ, suc, ◌+◌, ◌-◌, ◌*◌, ◌^◌, ◌%◌, ◌<◌, ◌≤◌, ◌⊎◌, Bool, true, false, inl, inr, sym, refl, ap, ◌∙◌, arith, bit_and, bit_or}
+use Rattle.std.proofs.Common.{pow-add, pow_mono, mod-eq_of_lt, mod-lt, ◌==◌, min, w64, eqb-true}
+use Rattle.std.{specs.Int.{bit_at, Bits.{or_zero_l, or_zero_r, and_lt}}, proofs.{Math.Nat.mul-mod_right, lemmas.Nat.{or_mod, and_mod, and_mask, or_lt}}}
 use Rattle.std.proofs.lemmas.Nat.Bits.{bit_at_or, bit_at_and, bit_at-pow_same, bit_at-pow_other, bit_at-lt, bit_at_not, bit_at_above}
-use Rattle.std.proofs.lemmas.Bool.{cases_lt, eqb-true, eqb-false}
-use Rattle.turns.specs.Sharing.{AddsNone, AddsOnly, Clears, KeepsOthers}
-use Rattle.turns.specs.Sharings.{IsLockWord, preferring, request_bit, seized_by}
-use Rattle.turns.proofs.Lists.{one_or_two}
+use Rattle.std.proofs.lemmas.Bool.{cases_lt, eqb-false}
+use Rattle.turns.{specs.{Sharing.{AddsNone, AddsOnly, Clears, KeepsOthers}, Sharings.{IsLockWord, preferring, request_bit, seized_by}}, proofs.Lists.one_or_two}
 
 -- a word without actor k's request, and one without its holder
 abbrev without : ℕ → ℕ → ℕ
@@ -45,7 +40,8 @@ asked_holder k word = or_mod word (request_bit k) 6 ∙ ap (bit_or (word % 2 ^ 6
 
 pub without_holder : (k word : ℕ) → k < 48 → without k word % 64 ≡ word % 64
 without_holder k word few =
-    and_mod word (2 ^ 64 - 1 - request_bit k) 6 ∙ ap (bit_and (word % 2 ^ 6)) (mask_mod k few) ∙ and_mask (word % 2 ^ 6) 6 ∙ mod-eq_of_lt (mod-lt word {m = 2 ^ 6} (omega arith))
+    and_mod word (2 ^ 64 - 1 - request_bit k) 6 ∙ ap (bit_and (word % 2 ^ 6)) (mask_mod k few) ∙ and_mask (word % 2 ^ 6) 6
+    ∙ mod-eq_of_lt (mod-lt word {m = 2 ^ 6} (omega arith))
 
 pub taken_holder : (k word : ℕ) → k < 48 → word % 64 ≡ 0 → seized_by k word % 64 ≡ suc k
 taken_holder k word few free =
@@ -59,7 +55,8 @@ unheld_holder word = and_mod word (2 ^ 64 - 1 - 63) 6 ∙ and_mask (word % 2 ^ 6
 
 -- single bits of them
 without_bit : (k word i : ℕ) → k < 48 → i < 64 → bit_at (without k word) i ≡ min (bit_at word i) (1 - bit_at (request_bit k) i)
-without_bit k word i few within = bit_at_and word (2 ^ 64 - 1 - request_bit k) i ∙ ap (min (bit_at word i)) (bit_at_not w64 (request_bit k) i (request_below k few) within)
+without_bit k word i few within =
+    bit_at_and word (2 ^ 64 - 1 - request_bit k) i ∙ ap (min (bit_at word i)) (bit_at_not w64 (request_bit k) i (request_below k few) within)
 
 without_same : (k word : ℕ) → k < 48 → bit_at (without k word) (8 + k) ≡ 0
 without_same k word few = omega (arith, without_bit k word (8 + k) few (omega arith), bit_at-pow_same (8 + k))
@@ -121,7 +118,8 @@ unheld_requests word j below valid = sym (ap (λ n. n == 1) (unheld_request word
 -- a request that was made is in the word, and so are those of others
 pub asked_own : (k word : ℕ) → preferring.requests k (bit_or word (request_bit k)) ≡ true
 asked_own k word =
-    let set : bit_at (bit_or word (request_bit k)) (8 + k) ≡ 1 = omega (arith, bit_at_or word (request_bit k) (8 + k), bit_at-pow_same (8 + k), bit_at-lt word (8 + k)) in
+    let set : bit_at (bit_or word (request_bit k)) (8 + k) ≡ 1 =
+    omega (arith, bit_at_or word (request_bit k) (8 + k), bit_at-pow_same (8 + k), bit_at-lt word (8 + k)) in
     ap (λ n. n == 1) set
 
 pub asked_others : (k word : ℕ) → KeepsOthers preferring k word (bit_or word (request_bit k))

@@ -1,21 +1,13 @@
 -- what lost actors leave: they stay as they are, with their locks and the words under these
 use Rattle.std.proofs.Common.{◌≡◌, ◌≢◌, ℕ, suc, Bool, true, false, List, [], ◌∷◌, ◌++◌, append-nil, append_assoc, slice_index, inl, inr, refl, sym, ap, ◌∙◌}
-use Rattle.std.specs.Prelude.{Option as Maybe, Some, None, if◌then◌else◌}
+use Rattle.std.proofs.Common.{Option as Maybe, Some, None, if◌then◌else◌}
 use mathlib.Core.Option.{Option, some, none}
 use lib.ListN.{get_elem?}
-use Rattle.turns.specs.Among.{IsIn}
-use Rattle.turns.specs.System.{System, IsSystem}
-use Rattle.turns.specs.Attempt.{AttemptOf, begin, restarted}
-use Rattle.turns.specs.World.{World, ActorOf, RecordOf, Idle, Does, added, added_in, assigned, turn_record}
-use Rattle.turns.specs.Law.{HasRequested, Holds, Lawful, holder_at, word_at}
-use Rattle.turns.specs.Sharing.{ShowsRequests}
-use Rattle.turns.specs.Runs.{Move, Assigns, Steps, Backs, AreMoves, AreOfOthers, mover, is_available, assigned_at, stepped_at, backed_at, after_move, run_from}
-use Rattle.turns.specs.declared.phase.Phase.{Phase}
-use Rattle.turns.specs.declared.phase.Phase.TheVariants.{Requests, Seizes, Tests, Turns, Withdraws, GivesBack, Operates}
-use Rattle.turns.proofs.Lists.{in_either, set_else}
-use Rattle.turns.proofs.Consequences.{spared}
-use Rattle.turns.proofs.Quiet.{few_actors}
-use Rattle.turns.proofs.Runs.{made_lawful, run_lawful}
+use Rattle.turns.specs.{Among.IsIn, System.{System, IsSystem}, Attempt.{AttemptOf, begin, restarted}, World.{World, ActorOf, RecordOf, Idle, Does, added}}
+use Rattle.turns.specs.{World.{added_in, assigned, turn_record}, Law.{HasRequested, Holds, Lawful, holder_at, word_at}, Sharing.ShowsRequests}
+use Rattle.turns.specs.Runs.{Move, Assigns, Steps, Restarts, AreMoves, AreOfOthers, mover, is_available, assigned_at, stepped_at, restarted_at, after_move, run_from}
+use Rattle.turns.specs.declared.phase.Phase.{Phase, TheVariants.{Requests, Seizes, Tests, Turns, Withdraws, GivesBack, Operates}}
+use Rattle.turns.proofs.{Lists.{in_either, set_else}, Consequences.spared, Quiet.few_actors, Runs.{made_lawful, run_lawful}}
 
 -- a lost actor makes no move of the others
 apart : {Job : Type 0} (lost : ℕ → Bool) (move : Move Job) (k : ℕ) → lost k ≡ true
@@ -47,7 +39,7 @@ module _ (O : System) where
   stepped_stays w j (some (Does number a)) k two = set_else w.actors j k _ two
 
   backed_stays : (w : World O) (j : ℕ) (found : Option (ActorOf O)) (k : ℕ) → k ≢ j
-      → Stays k w (backed_at O j found w)
+      → Stays k w (restarted_at O j found w)
   backed_stays w j none k two = refl
   backed_stays w j (some Idle) k two = refl
   backed_stays w j (some (Does number a)) k two = set_else w.actors j k (Does number (restarted O a)) two
@@ -57,7 +49,7 @@ module _ (O : System) where
   move_stays w (Assigns j number job) k two =
       assigned_stays w j number job (get_elem? w.actors j) k two
   move_stays w (Steps j) k two = stepped_stays w j (get_elem? w.actors j) k two
-  move_stays w (Backs j) k two = backed_stays w j (get_elem? w.actors j) k two
+  move_stays w (Restarts j) k two = backed_stays w j (get_elem? w.actors j) k two
 
   pub run_stays : (lost : ℕ → Bool) (w : World O) (moves : List (Move Job)) (k : ℕ)
       → AreOfOthers lost moves → lost k ≡ true → Stays k w (run_from O w moves)
@@ -137,7 +129,7 @@ module _ (O : System) where
   }
 
   backed_grows : (lost : ℕ → Bool) (w : World O) (j : ℕ) (found : Option (ActorOf O))
-      → GrowsByOthers lost w (backed_at O j found w)
+      → GrowsByOthers lost w (restarted_at O j found w)
   backed_grows lost w j none = grows_by_none lost w
   backed_grows lost w j (some Idle) = grows_by_none lost w
   backed_grows lost w j (some (Does number a)) =
@@ -148,7 +140,7 @@ module _ (O : System) where
   move_grows lost w (Assigns j number job) other =
       assigned_grows lost w j number job (get_elem? w.actors j)
   move_grows lost w (Steps j) other = stepped_grows lost w j (get_elem? w.actors j) other
-  move_grows lost w (Backs j) other = backed_grows lost w j (get_elem? w.actors j)
+  move_grows lost w (Restarts j) other = backed_grows lost w j (get_elem? w.actors j)
 
   run_grows : (lost : ℕ → Bool) (w : World O) (moves : List (Move Job)) → AreOfOthers lost moves
       → GrowsByOthers lost w (run_from O w moves)
@@ -198,7 +190,7 @@ module _ (O : System) where
       by false = refl
 
     backed_words : (w : World O) (j : ℕ) (found : Option (ActorOf O)) (n : ℕ)
-        → slice_index (backed_at O j found w).words n ≡ slice_index w.words n
+        → slice_index (restarted_at O j found w).words n ≡ slice_index w.words n
     backed_words w j none n = refl
     backed_words w j (some Idle) n = refl
     backed_words w j (some (Does number a)) n = refl
@@ -210,7 +202,7 @@ module _ (O : System) where
         assigned_words w j number job (get_elem? w.actors j) n
     move_spares w (Steps j) k lock n law two holds protects =
         step_spares w j (get_elem? w.actors j) k lock n law refl two holds protects
-    move_spares w (Backs j) k lock n law two holds protects =
+    move_spares w (Restarts j) k lock n law two holds protects =
         backed_words w j (get_elem? w.actors j) n
 
     pub run_spares : (lost : ℕ → Bool) (w : World O) (moves : List (Move Job)) (k : ℕ) (lock : Lock)

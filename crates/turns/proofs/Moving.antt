@@ -1,28 +1,19 @@
-use Rattle.std.proofs.Common.{◌≡◌, ℕ, zero, suc, ◌<◌, ◌≤◌, List, [], ◌∷◌, replicate, slice_index, sym, refl, ap, ◌∙◌, subst}
-use Rattle.std.specs.Prelude.{Bool, true, false, Option, None}
+use Rattle.std.proofs.Common.{◌≡◌, ℕ, zero, suc, ◌<◌, ◌≤◌, List, [], ◌∷◌, replicate, slice_index, sym, refl, ap, ◌∙◌, subst, Bool, true, false, Option, None}
 use mathlib.Core.Option.{some, some-injective, some-ne-none}
 use lib.ListN.{get_elem?, length-replicate}
-use Rattle.turns.specs.Among.{IsIn}
-use Rattle.turns.specs.System.{System, IsSystem}
-use Rattle.turns.specs.Attempt.{AttemptOf, act, effects_left_in, begin, request_in}
-use Rattle.turns.specs.declared.act.Act.TheVariants.{Finished}
-use Rattle.turns.specs.World.{World, ActorOf, Idle, Does, effects_left_of, moved, assigned, given_back, fresh_world, value_after, completed}
-use Rattle.turns.specs.Law.{IsAvailable, IsShared, Lawful}
-use Rattle.turns.specs.declared.phase.Phase.{Phase}
-use Rattle.turns.specs.declared.phase.Phase.TheVariants.{Requests, Seizes, Tests, Turns, Withdraws, GivesBack, Operates}
-use Rattle.turns.specs.declared.reading.Reading.{Reading}
-use Rattle.turns.proofs.Completed.{all_spare, completed_index, completed_length}
-use Rattle.turns.proofs.TurnCounts.{count_none}
-use Rattle.turns.proofs.Sound.{begin_sound}
-use Rattle.turns.proofs.Settings.{held_of, request_of}
-use Rattle.turns.proofs.Quiet.{still}
-use Rattle.turns.proofs.Moves.{attempt, keeps_in, gives_back_in}
+use Rattle.turns.specs.{Among.IsIn, System.{System, IsSystem}, Attempt.{AttemptOf, act, effects_left_in, begin, request_in}}
+use Rattle.turns.specs.declared.{act.Act.TheVariants.Finished, phase.Phase.Phase}
+use Rattle.turns.specs.declared.{phase.Phase.TheVariants.{Requests, Seizes, Tests, Turns, Withdraws, GivesBack, Operates}, reading.Reading.Reading}
+use Rattle.turns.specs.World.{World, ActorOf, Idle, Does, effects_left_of, moved, assigned, job_restarted, fresh_world, value_after, completed}
+use Rattle.turns.{specs.Law.{IsAvailable, IsShared, Lawful}, proofs.{Completed.{all_spare, completed_index, completed_length}, TurnCounts.count_none}}
+use Rattle.turns.proofs.{Sound.begin_sound, Settings.{held_of, request_of}, Quiet.still, Moves.{attempt, keeps_in, gives_back_in}}
 
 module _ (O : System) where
   open O use {Lock, Job, Reply, Effect, IsLock, IsJob, sharing}
 
   -- an actor with no next step has no effects left, holds nothing and requests nothing
-  pub rest_bare : (phase : Phase Lock ℕ) (job : Job) (readings : List (Reading ℕ)) (held : List Lock) (reply : Option Reply) (effects : List Effect) → act (attempt O phase job readings held reply effects) ≡ Finished → (effects_left_in phase effects ≡ []) × (held ≡ []) × (request_in phase ≡ None)
+  pub rest_bare : (phase : Phase Lock ℕ) (job : Job) (readings : List (Reading ℕ)) (held : List Lock) (reply : Option Reply) (effects : List Effect)
+      → act (attempt O phase job readings held reply effects) ≡ Finished → (effects_left_in phase effects ≡ []) × (held ≡ []) × (request_in phase ≡ None)
   rest_bare (Requests lock) job readings held reply effects e = cc
   rest_bare (Seizes lock expected) job readings held reply effects e = cc
   rest_bare (Tests word) job readings held reply effects e = cc
@@ -78,7 +69,8 @@ module _ (O : System) where
         that_length = completed_length O (replicate count Idle) 0 O.initial ∙ system.opens.initial_length;
         under = λ n lock e.
             sym (completed_index O (fresh_world O count) n (subst (λ (l : ℕ). n < l) (sym system.opens.initial_length) (system.words.word_there n lock e)) ∙
-            all_spare O (replicate count Idle) n (slice_index O.initial n) (λ j m at v. ap (λ (effects : List Effect). value_after O effects n v) (idle_left count j m at)));
+            all_spare O (replicate count Idle) n (slice_index O.initial n)
+            (λ j m at v. ap (λ (effects : List Effect). value_after O effects n v) (idle_left count j m at)));
       }) system.opens.shows;
       sound = λ k number a at. absurd (idle_none count k number a at);
       shared = λ lock is. opens_shared count lock is;
@@ -96,5 +88,5 @@ module _ (O : System) where
       pub keeps : (a : AttemptOf O) → get_elem? w.actors k ≡ some (Does number a) → Lawful O (moved O k number a w)
       keeps a there = keeps_in O system w law k number a.phase a.job a.readings a.held a.reply a.effects there
 
-      pub gives_back : (a : AttemptOf O) → get_elem? w.actors k ≡ some (Does number a) → Lawful O (given_back O k number a w)
+      pub gives_back : (a : AttemptOf O) → get_elem? w.actors k ≡ some (Does number a) → Lawful O (job_restarted O k number a w)
       gives_back a there = gives_back_in O system w law k number a.phase a.job a.readings a.held a.reply a.effects there

@@ -1,10 +1,5 @@
-use Rattle.std.proofs.Common.{◌≡◌, ℕ, zero, suc, ◌+◌, ◌%◌, ◌^◌, List, [], ◌∷◌, ◌++◌, length, refl, ap, ◌∙◌, subst, arith}
-use Rattle.std.specs.Prelude.{Some, slice_get, take}
-use Rattle.std.proofs.Math.Nat.{mod-add-mod}
-use Rattle.turns.specs.Clock.{IsCount}
-use Rattle.turns.specs.System.{System}
-use Rattle.turns.specs.World.{RecordOf, after}
-use Rattle.turns.specs.Law.{IsLegal}
+use Rattle.std.proofs.Common.{◌≡◌, ℕ, zero, suc, ◌+◌, ◌%◌, ◌^◌, List, [], ◌∷◌, ◌++◌, length, refl, ap, ◌∙◌, subst, arith, Some, slice_get, take}
+use Rattle.{std.proofs.Math.Nat.mod-add-mod, turns.specs.{Clock.IsCount, System.System, World.{RecordOf, after}, Law.IsLegal}}
 
 -- one turn more, modulo 2^64
 pub turn_more : (n : ℕ) → (n % 2 ^ 64 + 1) % 2 ^ 64 ≡ suc n % 2 ^ 64
@@ -25,7 +20,8 @@ get_before (y ∷ xs) more zero x e = e
 get_before (y ∷ xs) more (suc i) x e = get_before xs more i x e
 
 -- what comes before an item is the same in a list that has the same items at their places
-pub take_before : {A : Type 0} (xs ys : List A) (i : ℕ) (x : A) → ((j : ℕ) (y : A) → slice_get xs j ≡ Some y → slice_get ys j ≡ Some y) → slice_get xs i ≡ Some x → take i ys ≡ take i xs
+pub take_before : {A : Type 0} (xs ys : List A) (i : ℕ) (x : A) → ((j : ℕ) (y : A) → slice_get xs j ≡ Some y → slice_get ys j ≡ Some y)
+    → slice_get xs i ≡ Some x → take i ys ≡ take i xs
 take_before xs ys zero x on e = refl
 take_before [] ys (suc i) x on e = absurd cc
 take_before (y ∷ xs) [] (suc i) x on e = let there = on zero y refl in absurd cc
@@ -43,7 +39,8 @@ module _ (O : System) where
   after_more state (x ∷ order) r = after_more (whole state x.job).state order r
 
   -- a legal order goes on by a record with the next turn, and the reply of its job done whole
-  pub legal_more : (i : ℕ) (state : State) (order : List (RecordOf O)) (r : RecordOf O) → IsLegal O i state order → O.IsJob r.job → IsCount O.clock r.turn (i + length order) → r.reply ≡ (whole (after O state order) r.job).reply → IsLegal O i state (order ++ r ∷ [])
+  pub legal_more : (i : ℕ) (state : State) (order : List (RecordOf O)) (r : RecordOf O) → IsLegal O i state order → O.IsJob r.job
+      → IsCount O.clock r.turn (i + length order) → r.reply ≡ (whole (after O state order) r.job).reply → IsLegal O i state (order ++ r ∷ [])
   legal_more i state [] r legal given turn reply = let e : i + zero ≡ i = omega arith in (given, subst (λ (m : ℕ). IsCount O.clock r.turn m) e turn, reply, tt)
   legal_more i state (x ∷ order) r legal given turn reply =
       let e : i + suc (length order) ≡ suc i + length order = omega arith in

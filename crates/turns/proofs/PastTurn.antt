@@ -1,20 +1,13 @@
 -- a job past its turn comes to its end, whatever moves are made in between its steps
-use Rattle.std.proofs.Common.{◌≡◌, ◌≢◌, ℕ, suc, ◌+◌, ◌≤◌, ◌⊎◌, Bool, true, false, List, [], ◌∷◌, length, slice_index, inl, inr, refl, sym, ◌∙◌, ap, subst, arith}
-use Rattle.std.specs.Prelude.{if◌then◌else◌}
-use Rattle.std.proofs.lemmas.Bool.{eqb-true, eq-eqb}
-use Rattle.std.proofs.lemmas.List.Sums.{sum_by-cons}
+use Rattle.std.proofs.Common.{◌≡◌, ◌≢◌, ℕ, suc, ◌+◌, ◌≤◌, ◌⊎◌, Bool, true, false, List, [], ◌∷◌, length, slice_index, inl, inr, refl, sym, ◌∙◌, ap, subst}
+use Rattle.std.proofs.Common.{arith, if◌then◌else◌, eqb-true, eq-eqb}
+use Rattle.{std.proofs.lemmas.List.Sums.sum_by-cons, turns.specs.{System.System, Attempt.{AttemptOf, act, act_in, answer_to, begin, changed, closing_act}}}
+use Rattle.turns.specs.{Attempt.{next, operated, rest_of, restarted, restarted_in}, World.{World, ActorOf, Idle, Does, assigned, place}}
+use Rattle.turns.specs.Runs.{Move, Assigns, Steps, Restarts, is_finished, is_available, assigned_at, stepped_at, restarted_at, after_move}
+use Rattle.turns.specs.{Ending.{ComesToEnd, is_step_of, own_steps}, declared.phase.Phase.{Phase, TheVariants.Operates}}
+use Rattle.turns.proofs.{Lists.{one_or_two, set_here, set_else}, Runs.rest_is, Settings.does_one}
 use mathlib.Core.Option.{Option, some, none, some-injective}
 use lib.ListN.{get_elem?}
-use Rattle.turns.specs.System.{System}
-use Rattle.turns.specs.Attempt.{AttemptOf, act, act_in, answer_to, begin, changed, closing_act, next, operated, rest_of, restarted, restarted_in}
-use Rattle.turns.specs.World.{World, ActorOf, Idle, Does, assigned, place}
-use Rattle.turns.specs.Runs.{Move, Assigns, Steps, Backs, is_finished, is_available, assigned_at, stepped_at, backed_at, after_move}
-use Rattle.turns.specs.Ending.{ComesToEnd, is_step_of, own_steps}
-use Rattle.turns.specs.declared.phase.Phase.{Phase}
-use Rattle.turns.specs.declared.phase.Phase.TheVariants.{Operates}
-use Rattle.turns.proofs.Lists.{one_or_two, set_here, set_else}
-use Rattle.turns.proofs.Runs.{rest_is}
-use Rattle.turns.proofs.Settings.{does_one}
 
 -- one if it is so, otherwise zero
 abbrev one_if : Bool → ℕ
@@ -103,14 +96,14 @@ module _ (O : System) where
         subst (λ (x : AttemptOf O). ◌≡◌ {A = ActorOf O} (Does i x) (Does number a)) (sym back) same
 
     backed_same : (j : ℕ) (found : Option (ActorOf O)) → get_elem? w.actors j ≡ found
-        → IsSame (backed_at O j found w)
+        → IsSame (restarted_at O j found w)
     backed_same j none here = there
     backed_same j (some Idle) here = there
     backed_same j (some (Does i b)) here = by (one_or_two k j) where
-      by : (k ≡ j) ⊎ (k ≢ j) → IsSame (backed_at O j (some (Does i b)) w)
+      by : (k ≡ j) ⊎ (k ≢ j) → IsSame (restarted_at O j (some (Does i b)) w)
       by (inr two) = set_else w.actors j k (Does i (restarted O b)) two ∙ there
       by (inl one) =
-          let after = backed_at O j (some (Does i b)) w in
+          let after = restarted_at O j (some (Does i b)) w in
           ap (λ (x : ℕ). get_elem? after.actors x) one ∙
           set_here w.actors j (Does i (restarted O b)) (Does i b) here ∙
           ap some (given_same i b (same_actor j (Does i b) one here))
@@ -121,7 +114,7 @@ module _ (O : System) where
     others_same (Steps j) other = stepped_same j (get_elem? w.actors j) (λ one.
         let both : ◌≡◌ {A = Bool} true false = sym (eq-eqb j k (sym one)) ∙ other in
         absurd cc)
-    others_same (Backs j) other = backed_same j (get_elem? w.actors j) refl
+    others_same (Restarts j) other = backed_same j (get_elem? w.actors j) refl
 
     -- its own step is its next
     abbrev after : AttemptOf O
@@ -130,7 +123,7 @@ module _ (O : System) where
     own_next : (move : Move Job) → is_step_of k move ≡ true
         → get_elem? (after_move O w move).actors k ≡ some (Does number after)
     own_next (Assigns j i job) own = absurd cc
-    own_next (Backs j) own = absurd cc
+    own_next (Restarts j) own = absurd cc
     own_next (Steps j) own =
         let one : j ≡ k = eqb-true j k own in
         ap (λ (x : ℕ). get_elem? (after_move O w (Steps x)).actors k) one ∙

@@ -1,10 +1,7 @@
 -- sharing without requests is a sharing
-use Rattle.std.proofs.Common.{◌≡◌, ◌≢◌, ℕ, zero, suc, ◌+◌, ◌<◌, ◌%◌, ◌^◌, Bool, true, false, refl, sym, ap, ◌∙◌, arith}
-use Rattle.std.proofs.lemmas.Bool.{eqb-true, eq-eqb}
-use Rattle.std.specs.Prelude.{◌==◌, None, if◌then◌else◌}
-use Rattle.turns.specs.Sharing.{IsSharing, IsTrueOf, with_request}
-use Rattle.turns.specs.Sharings.{by_holder, plain}
-use Rattle.turns.specs.declared.judgement.Judgement.TheVariants.{Free}
+use Rattle.std.proofs.Common.{◌≡◌, ◌≢◌, ℕ, zero, suc, ◌+◌, ◌<◌, ◌%◌, ◌^◌, Bool, true, false, refl, sym, ap, ◌∙◌, arith, eqb-true, eq-eqb, ◌==◌, None}
+use Rattle.std.proofs.Common.{if◌then◌else◌}
+use Rattle.turns.specs.{Sharing.{IsSharing, IsTrueOf, with_request}, Sharings.{by_holder, plain}, declared.judgement.Judgement.TheVariants.Free}
 
 judged_true : (k word holder : ℕ) → word % 2 ^ 32 ≡ holder → IsTrueOf plain k word (by_holder holder None)
 judged_true k word zero is = is

@@ -1,10 +1,9 @@
 -- sharing by requests and preference is a sharing, and one that shows requests
-use Rattle.turns.specs.Sharing.{IsSharing, IsUnused, ShowsRequests}
-use Rattle.turns.specs.Sharings.{preferring}
 use Rattle.std.proofs.Common.{◌+◌, ◌==◌, refl, ap, arith}
-use Rattle.std.proofs.lemmas.Nat.Bits.{bit_at-zero}
-use Rattle.turns.proofs.LockWords.{asked_holder, without_holder, taken_holder, unheld_holder, asked_requests, without_requests, taken_requests, unheld_requests, asked_own, asked_others, without_others, taken_others, unheld_others, asked_is, without_is, taken_is, unheld_is}
-use Rattle.turns.proofs.FirstRequests.{judged_true, alone_free}
+use Rattle.turns.specs.{Sharing.{IsSharing, IsUnused, ShowsRequests}, Sharings.preferring}
+use Rattle.turns.proofs.LockWords.{asked_holder, without_holder, taken_holder, unheld_holder, asked_requests, without_requests, taken_requests, unheld_requests}
+use Rattle.turns.proofs.LockWords.{asked_own, asked_others, without_others, taken_others, unheld_others, asked_is, without_is, taken_is, unheld_is}
+use Rattle.{turns.proofs.FirstRequests.{judged_true, alone_free}, std.proofs.lemmas.Nat.Bits.bit_at-zero}
 
 pub preferring_is : IsSharing preferring
 preferring_is = record {

@@ -1,23 +1,11 @@
-use Rattle.std.proofs.Common.{◌≡◌, ℕ, ◌<◌, ◌^◌, List, [], ◌∷◌, slice_index, length, refl, sym, ap, ◌∙◌, subst}
-use Rattle.std.specs.Prelude.{Result, Ok, Err, Some, None, true, slice_get}
-use Rattle.turns.specs.Among.{IsIn, AreDistinct}
-use Rattle.turns.specs.Sharing.{ShowsRequests}
-use Rattle.turns.specs.System.{System, IsSystem, IsUnder, AreUnder, DecidesUnder, AreWords, FitWords}
-use Rattle.turns.specs.Seen.{AreReadWords}
-use Rattle.turns.specs.Attempt.{AttemptOf, IsValid, effects_left_in, request_in, walk_result, goes_on, walks_on, begin, giving_back, denied}
-use Rattle.turns.specs.World.{World, RecordOf, after}
-use Rattle.turns.specs.Law.{holder_at, FitsIn, IsHeld, IsRead, IsRecorded, IsSound, WasDecided}
-use Rattle.turns.specs.declared.judgement.Judgement.{Judgement}
-use Rattle.turns.specs.declared.judgement.Judgement.TheVariants.{Free, Held, Preferred}
-use Rattle.turns.specs.declared.phase.Phase.{Phase}
-use Rattle.turns.specs.declared.phase.Phase.TheVariants.{Requests, Seizes, Tests, Turns, Withdraws, GivesBack, Operates}
-use Rattle.turns.specs.declared.reading.Reading.{Reading}
-use Rattle.turns.specs.declared.wanted.Wanted.{Wanted}
-use Rattle.turns.specs.declared.wanted.Wanted.TheVariants.{Seize, Test}
-use Rattle.turns.proofs.Completed.{due_along}
-use Rattle.turns.proofs.Keeping.{WalkFits, under_more}
-use Rattle.turns.proofs.Orders.{take_before}
-use Rattle.turns.proofs.Standing.{come_fits, stands_begin}
+use Rattle.std.proofs.Common.{◌≡◌, ℕ, ◌<◌, ◌^◌, List, [], ◌∷◌, slice_index, length, refl, sym, ap, ◌∙◌, subst, Result, Ok, Err, Some, None, true, slice_get}
+use Rattle.turns.specs.{Among.{IsIn, AreDistinct}, Sharing.ShowsRequests, System.{System, IsSystem, IsUnder, AreUnder, DecidesUnder, AreWords, FitWords}}
+use Rattle.turns.specs.{Seen.AreReadWords, Attempt.{AttemptOf, IsValid, effects_left_in, request_in, walk_result, goes_on, walks_on, begin, giving_back}}
+use Rattle.turns.specs.{Attempt.denied, World.{World, RecordOf, after}, Law.{holder_at, FitsIn, IsHeld, IsRead, IsRecorded, IsSound, WasDecided}}
+use Rattle.turns.specs.declared.{judgement.Judgement.{Judgement, TheVariants.{Free, Held, Preferred}}, phase.Phase.Phase}
+use Rattle.turns.specs.declared.{phase.Phase.TheVariants.{Requests, Seizes, Tests, Turns, Withdraws, GivesBack, Operates}, reading.Reading.Reading}
+use Rattle.turns.specs.declared.wanted.Wanted.{Wanted, TheVariants.{Seize, Test}}
+use Rattle.turns.proofs.{Completed.due_along, Keeping.{WalkFits, under_more}, Orders.take_before, Standing.{come_fits, stands_begin}}
 
 module _ (O : System) where
   open O use {Lock, Job, Effect, Decision, IsLock, IsJob, sharing}
@@ -41,23 +29,39 @@ module _ (O : System) where
   has_sound w k number a sound = record { job = sound.job; held = sound.held; distinct = sound.distinct }
 
   -- a turn that is recorded in the order is recorded in an order that goes on
-  abbrev recorded_along : (order other : List (RecordOf O)) (k number turn : ℕ) (a : AttemptOf O) → ((i : ℕ) (r : RecordOf O) → slice_get order i ≡ Some r → slice_get other i ≡ Some r) → IsRecorded O order k number turn a → IsRecorded O other k number turn a
-  recorded_along order other k number turn a on known = record { place = known.place; recorded = known.recorded; at_place = on known.place known.recorded known.at_place; turn_is = known.turn_is; actor = known.actor; number_is = known.number_is; job = known.job; reply = known.reply }
+  abbrev recorded_along : (order other : List (RecordOf O)) (k number turn : ℕ) (a : AttemptOf O)
+      → ((i : ℕ) (r : RecordOf O) → slice_get order i ≡ Some r → slice_get other i ≡ Some r) → IsRecorded O order k number turn a
+      → IsRecorded O other k number turn a
+  recorded_along order other k number turn a on known = record {
+    place = known.place;
+    recorded = known.recorded;
+    at_place = on known.place known.recorded known.at_place;
+    turn_is = known.turn_is;
+    actor = known.actor;
+    number_is = known.number_is;
+    job = known.job;
+    reply = known.reply;
+  }
 
   -- and it was decided on the same state there
-  decided_along : (now then : List ℕ) (order other : List (RecordOf O)) (place : ℕ) (r : RecordOf O) (a : AttemptOf O) → ((n : ℕ) → IsUnder O a.held n → slice_index then n ≡ slice_index now n) → ((i : ℕ) (x : RecordOf O) → slice_get order i ≡ Some x → slice_get other i ≡ Some x) → slice_get order place ≡ Some r → WasDecided O now order place a → WasDecided O then other place a
+  decided_along : (now then : List ℕ) (order other : List (RecordOf O)) (place : ℕ) (r : RecordOf O) (a : AttemptOf O)
+      → ((n : ℕ) → IsUnder O a.held n → slice_index then n ≡ slice_index now n)
+      → ((i : ℕ) (x : RecordOf O) → slice_get order i ≡ Some x → slice_get other i ≡ Some x) → slice_get order place ≡ Some r → WasDecided O now order place a
+      → WasDecided O then other place a
   decided_along now then order other place r a same on valid decided = record {
     words = decided.words;
     size = decided.size;
     are_words = decided.are_words;
-    shows = subst (λ (before : List (RecordOf O)). O.Shows decided.words (after O O.opening before)) (sym (take_before order other place r on valid)) decided.shows;
+    shows =
+        subst (λ (before : List (RecordOf O)). O.Shows decided.words (after O O.opening before)) (sym (take_before order other place r on valid)) decided.shows;
     made = decided.made;
     effects = decided.effects;
     under = decided.under;
     since = λ n over. same n over ∙ decided.since n over;
   }
 
-  fits_along : (system : IsSystem O) (w v : World O) (k number : ℕ) (a : AttemptOf O) → Follows w v a.held → (p : Phase Lock ℕ) → FitsIn O w k number a p → FitsIn O v k number a p
+  fits_along : (system : IsSystem O) (w v : World O) (k number : ℕ) (a : AttemptOf O) → Follows w v a.held → (p : Phase Lock ℕ) → FitsIn O w k number a p
+      → FitsIn O v k number a p
   fits_along system w v k number a along (Requests lock) fits = fits
   fits_along system w v k number a along (Seizes lock expected) fits = fits
   fits_along system w v k number a along (Tests word) fits = fits
@@ -69,11 +73,13 @@ module _ (O : System) where
     fit = fits.fit;
     due = due_along O system a.held w.words v.words a.effects along.this along.that fits.under along.under fits.due;
     recorded = recorded_along w.order v.order k number turn a along.order fits.recorded;
-    decided = decided_along w.words v.words w.order v.order fits.recorded.place fits.recorded.recorded a along.under along.order fits.recorded.at_place fits.decided;
+    decided =
+        decided_along w.words v.words w.order v.order fits.recorded.place fits.recorded.recorded a along.under along.order fits.recorded.at_place fits.decided;
   }
 
   -- an attempt is sound in a world that follows for what it holds
-  pub sound_along : (system : IsSystem O) (w v : World O) (k number : ℕ) (a : AttemptOf O) → Follows w v a.held → IsSound O w k number a → IsSound O v k number a
+  pub sound_along : (system : IsSystem O) (w v : World O) (k number : ℕ) (a : AttemptOf O) → Follows w v a.held → IsSound O w k number a
+      → IsSound O v k number a
   sound_along system w v k number a along sound = record {
     job = sound.job;
     held = λ lock within. let h = sound.held lock within in record { there = h.there; names = along.holders lock h.there within ∙ h.names };
@@ -110,11 +116,13 @@ module _ (O : System) where
   left_fit w k number a sound = fits_fit w k number a a.phase sound.fits
 
   -- what was read in words fits them
-  pub are_read : (words : List ℕ) (held : List Lock) (readings : List (Reading ℕ)) → AreWords words → ((r : Reading ℕ) → IsIn r readings → IsRead O words held r) → AreReadWords readings
+  pub are_read : (words : List ℕ) (held : List Lock) (readings : List (Reading ℕ)) → AreWords words
+      → ((r : Reading ℕ) → IsIn r readings → IsRead O words held r) → AreReadWords readings
   are_read words held readings are read r within = subst (λ (v : ℕ). v < 2 ^ 64) (read r within).value (are r.word)
 
   -- a word is under the locks of one actor only
-  pub one_actor : (system : IsSystem O) (w : World O) (j k n i l : ℕ) (a b : AttemptOf O) → IsSound O w j i a → IsSound O w k l b → IsUnder O a.held n → IsUnder O b.held n → j ≡ k
+  pub one_actor : (system : IsSystem O) (w : World O) (j k n i l : ℕ) (a b : AttemptOf O) → IsSound O w j i a → IsSound O w k l b → IsUnder O a.held n
+      → IsUnder O b.held n → j ≡ k
   one_actor system w j k n i l a b this that under over =
       let e : under.lock ≡ over.lock = system.words.one_protector n under.lock over.lock under.protects over.protects in
       let x = (this.held under.lock under.held).names in
@@ -171,7 +179,8 @@ module _ (O : System) where
   judged_held a lock word (Held other) = refl
   judged_held a lock word (Preferred other) = refl
 
-  pub judged_left : (a : AttemptOf O) (lock : Lock) (word : ℕ) (j : Judgement) → effects_left_in (on_judgement a lock word j).phase (on_judgement a lock word j).effects ≡ []
+  pub judged_left : (a : AttemptOf O) (lock : Lock) (word : ℕ) (j : Judgement)
+      → effects_left_in (on_judgement a lock word j).phase (on_judgement a lock word j).effects ≡ []
   judged_left a lock word Free = refl
   judged_left a lock word (Held other) = refl
   judged_left a lock word (Preferred other) = refl
@@ -185,30 +194,49 @@ module _ (O : System) where
   AreRead words a = (r : Reading ℕ) → IsIn r a.readings → IsRead O words a.held r
 
   -- an attempt that is denied is sound
-  pub put_off_sound : (w : World O) (k number : ℕ) (a : AttemptOf O) (lock : Lock) → Has w.words k a.job a.held → IsLock lock → IsSound O w k number (denied a lock)
-  put_off_sound w k number a lock has is = record { job = has.job; held = has.held; distinct = has.distinct; read = λ r none. absurd none; valid = is; fits = tt }
+  pub put_off_sound : (w : World O) (k number : ℕ) (a : AttemptOf O) (lock : Lock) → Has w.words k a.job a.held → IsLock lock
+      → IsSound O w k number (denied a lock)
+  put_off_sound w k number a lock has is =
+      record { job = has.job; held = has.held; distinct = has.distinct; read = λ r none. absurd none; valid = is; fits = tt }
 
-  pub judged_sound : (w : World O) (k number : ℕ) (a : AttemptOf O) (lock : Lock) (word : ℕ) (j : Judgement) → Has w.words k a.job a.held → AreRead w.words a → walk_result O a ≡ Err (Seize lock) → IsLock lock → sharing.IsWord word → (ShowsRequests sharing → sharing.requests k word ≡ true) → sharing.judged k word ≡ j → IsSound O w k number (on_judgement a lock word j)
-  judged_sound w k number a lock word Free has read wants is word_is asked e = record { job = has.job; held = has.held; distinct = has.distinct; read = read; valid = wants; fits = (is, record { is_word = word_is; requested = asked; free = e }) }
+  pub judged_sound : (w : World O) (k number : ℕ) (a : AttemptOf O) (lock : Lock) (word : ℕ) (j : Judgement) → Has w.words k a.job a.held → AreRead w.words a
+      → walk_result O a ≡ Err (Seize lock) → IsLock lock → sharing.IsWord word → (ShowsRequests sharing → sharing.requests k word ≡ true)
+      → sharing.judged k word ≡ j → IsSound O w k number (on_judgement a lock word j)
+  judged_sound w k number a lock word Free has read wants is word_is asked e = record {
+    job = has.job;
+    held = has.held;
+    distinct = has.distinct;
+    read = read;
+    valid = wants;
+    fits = (is, record { is_word = word_is; requested = asked; free = e });
+  }
   judged_sound w k number a lock word (Held other) has read wants is word_is asked e = put_off_sound w k number a lock has is
   judged_sound w k number a lock word (Preferred other) has read wants is word_is asked e = put_off_sound w k number a lock has is
 
   module _ (system : IsSystem O) where
-    goes_sound : (w : World O) (k number : ℕ) (a : AttemptOf O) (result : Result Decision (Wanted Lock ℕ)) → Has w.words k a.job a.held → AreRead w.words a → walk_result O a ≡ result → WalkFits O (DecidesUnder O) a.held result → IsSound O w k number (goes_on O a result)
+    goes_sound : (w : World O) (k number : ℕ) (a : AttemptOf O) (result : Result Decision (Wanted Lock ℕ)) → Has w.words k a.job a.held → AreRead w.words a
+        → walk_result O a ≡ result → WalkFits O (DecidesUnder O) a.held result → IsSound O w k number (goes_on O a result)
     goes_sound w k number a (Ok decision) has read e fits = record {
       job = has.job;
       held = has.held;
       distinct = has.distinct;
       read = read;
       valid = record { decision = decision; come = e; reply = refl; effects = refl };
-      fits = record { under = λ effect within. under_more O fits.some a.held (O.effect_word effect) fits.among (fits.fits.under effect within); fit = fits.fits.fit };
+      fits = record {
+        under = λ effect within. under_more O fits.some a.held (O.effect_word effect) fits.among (fits.fits.under effect within);
+        fit = fits.fits.fit;
+      };
     }
-    goes_sound w k number a (Err (Seize lock)) has read e fits = record { job = has.job; held = has.held; distinct = has.distinct; read = read; valid = e; fits = fits }
-    goes_sound w k number a (Err (Test word)) has read e fits = record { job = has.job; held = has.held; distinct = has.distinct; read = read; valid = e; fits = fits }
+    goes_sound w k number a (Err (Seize lock)) has read e fits =
+        record { job = has.job; held = has.held; distinct = has.distinct; read = read; valid = e; fits = fits }
+    goes_sound w k number a (Err (Test word)) has read e fits =
+        record { job = has.job; held = has.held; distinct = has.distinct; read = read; valid = e; fits = fits }
 
     -- a walk brings an attempt to where it is sound
-    pub walks_sound : (w : World O) (k number : ℕ) (a : AttemptOf O) → AreWords w.words → Has w.words k a.job a.held → AreRead w.words a → IsSound O w k number (walks_on O a)
-    walks_sound w k number a are has read = goes_sound w k number a (walk_result O a) has read refl (come_fits O system a has.job (are_read w.words a.held a.readings are read))
+    pub walks_sound : (w : World O) (k number : ℕ) (a : AttemptOf O) → AreWords w.words → Has w.words k a.job a.held → AreRead w.words a
+        → IsSound O w k number (walks_on O a)
+    walks_sound w k number a are has read =
+        goes_sound w k number a (walk_result O a) has read refl (come_fits O system a has.job (are_read w.words a.held a.readings are read))
 
     pub begin_sound : (w : World O) (k number : ℕ) (job : Job) → IsJob job → IsSound O w k number (begin O job)
     begin_sound w k number job given =
@@ -222,6 +250,8 @@ module _ (O : System) where
           fits = subst (WalkFits O (DecidesUnder O) []) valid (come_fits O system (begin O job) given (λ r none. absurd none));
         }
 
-    pub freed_sound : (w : World O) (k number : ℕ) (a : AttemptOf O) (locks : List Lock) → Has w.words k a.job locks → IsSound O w k number (giving_back O a locks)
+    pub freed_sound : (w : World O) (k number : ℕ) (a : AttemptOf O) (locks : List Lock) → Has w.words k a.job locks
+        → IsSound O w k number (giving_back O a locks)
     freed_sound w k number a [] has = begin_sound w k number a.job has.job
-    freed_sound w k number a (lock ∷ locks) has = record { job = has.job; held = has.held; distinct = has.distinct; read = λ r none. absurd none; valid = λ e. cc; fits = tt }
+    freed_sound w k number a (lock ∷ locks) has =
+        record { job = has.job; held = has.held; distinct = has.distinct; read = λ r none. absurd none; valid = λ e. cc; fits = tt }

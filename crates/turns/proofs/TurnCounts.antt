@@ -1,9 +1,6 @@
 -- what the turn word and the numbers of turns may be
 use Rattle.std.proofs.Common.{◌≡◌, ℕ, suc, ◌+◌, ◌≤◌, ◌%◌, ◌^◌, ap, ◌∙◌, arith}
-use Rattle.turns.specs.Operations.{applied, FitsWord}
-use Rattle.turns.specs.Clock.{turning, IsCount, IsCounted}
-use Rattle.turns.specs.declared.clock.Clock.{Clock}
-use Rattle.turns.specs.declared.clock.Clock.TheVariants.{Counted, Ghost}
+use Rattle.turns.specs.{Operations.{applied, FitsWord}, Clock.{turning, IsCount, IsCounted}, declared.clock.Clock.{Clock, TheVariants.{Counted, Ghost}}}
 use Rattle.turns.proofs.Orders.{turn_more}
 
 pub turning_fits : (c : Clock) → FitsWord (turning c)

@@ -1,20 +1,12 @@
 -- words are of 64 bits, whatever is done to them
-use Rattle.std.proofs.Common.{◌≡◌, ℕ, zero, suc, ◌+◌, ◌-◌, ◌<◌, ◌^◌, Bool, true, false, List, [], ◌∷◌, ◌++◌, replicate, slice_index, slice_set, sym, inl, inr, refl, arith, subst}
-use Rattle.std.proofs.lemmas.Nat.{and_le_l, or_lt}
-use Rattle.std.proofs.Math.Nat.{mod-lt}
-use Rattle.std.specs.Prelude.{Some, ◌==◌, find, option_map, if◌then◌else◌}
+use Rattle.std.proofs.Common.{◌≡◌, ℕ, zero, suc, ◌+◌, ◌-◌, ◌<◌, ◌^◌, Bool, true, false, List, [], ◌∷◌, ◌++◌, replicate, slice_index, slice_set, sym, inl, inr}
+use Rattle.std.proofs.Common.{refl, arith, subst, mod-lt, Some, ◌==◌, find, option_map, if◌then◌else◌}
+use Rattle.{std.proofs.lemmas.Nat.{and_le_l, or_lt}, turns.specs.{Operations.{applied, FitsWord}, Script.{Script, Ends, TestThen, SeizeThen, run, value_read}}}
+use Rattle.turns.specs.{Bounds.AllEndsHave, Seen.AreReadWords, System.{System, AreWords, FitWords, effect_on}, World.{ActorOf, effects_left_of, value_after}}
+use Rattle.turns.specs.{World.{completed_word, completed_from}, declared.operation.Operation.{Operation, TheVariants.{Load, Or, And, Add, Sub, Store}}}
+use Rattle.turns.{specs.declared.{operation.Operation.TheVariants.CompareExchange, reading.Reading.Reading}, proofs.Lists.in_more}
 use mathlib.Core.Option.{some}
 use lib.ListN.{get_elem?}
-use Rattle.turns.specs.Operations.{applied, FitsWord}
-use Rattle.turns.specs.Script.{Script, Ends, TestThen, SeizeThen, run, value_read}
-use Rattle.turns.specs.Bounds.{AllEndsHave}
-use Rattle.turns.specs.Seen.{AreReadWords}
-use Rattle.turns.specs.System.{System, AreWords, FitWords, effect_on}
-use Rattle.turns.specs.World.{ActorOf, effects_left_of, value_after, completed_word, completed_from}
-use Rattle.turns.specs.declared.operation.Operation.{Operation}
-use Rattle.turns.specs.declared.operation.Operation.TheVariants.{Load, Or, And, Add, Sub, Store, CompareExchange}
-use Rattle.turns.specs.declared.reading.Reading.{Reading}
-use Rattle.turns.proofs.Lists.{in_more}
 
 -- an operation leaves a word of 64 bits
 pub applied_below : (op : Operation) (found : ℕ) → FitsWord op → found < 2 ^ 64 → applied op found < 2 ^ 64
@@ -50,16 +42,20 @@ MakesWords change = (word value : ℕ) → value < 2 ^ 64 → change word value 
 pub value_read-below : (readings : List (Reading ℕ)) (word value : ℕ) → AreReadWords readings → value_read readings word ≡ Some value → value < 2 ^ 64
 unfolding value_read
 value_read-below [] word value are e = cc
-value_read-below (reading ∷ readings) word value are e = at (reading.word == word) (value_read-below readings word value (λ r within. are r (inr within))) e where
-  at : (b : Bool) → (value_read readings word ≡ Some value → value < 2 ^ 64) → option_map (λ (r : Reading ℕ). r.value) (if b then Some reading else find (λ (r : Reading ℕ). r.word == word) readings) ≡ Some value → value < 2 ^ 64
-  at true later found =
-      let here : reading.value ≡ value = cc in
-      subst (λ (v : ℕ). v < 2 ^ 64) here (are reading (inl refl))
-  at false later found = later found
+value_read-below (reading ∷ readings) word value are e =
+    at (reading.word == word) (value_read-below readings word value (λ r within. are r (inr within))) e where
+      at : (b : Bool) → (value_read readings word ≡ Some value → value < 2 ^ 64)
+          → option_map (λ (r : Reading ℕ). r.value) (if b then Some reading else find (λ (r : Reading ℕ). r.word == word) readings) ≡ Some value
+          → value < 2 ^ 64
+      at true later found =
+          let here : reading.value ≡ value = cc in
+          subst (λ (v : ℕ). v < 2 ^ 64) here (are reading (inl refl))
+      at false later found = later found
 
 -- and so does what was read with one reading more
 pub read_more : (readings : List (Reading ℕ)) (last : Reading ℕ) → AreReadWords readings → last.value < 2 ^ 64 → AreReadWords (readings ++ last ∷ [])
-read_more readings last are below r within = elim (in_more r last readings within) [ inl front ↦ are r front | inr e ↦ subst (λ (x : Reading ℕ). x.value < 2 ^ 64) (sym e) below ]
+read_more readings last are below r within =
+    elim (in_more r last readings within) [ inl front ↦ are r front | inr e ↦ subst (λ (x : Reading ℕ). x.value < 2 ^ 64) (sym e) below ]
 
 -- on words, a script ends as each of its ends does
 pub run_ends : {Lock A : Type 0} (Has : A → Type 0) (words : List ℕ) (script : Script Lock A) → AreWords words → AllEndsHave Has script → Has (run words script)
@@ -75,7 +71,8 @@ module _ (O : System) where
   pub made_below : (effects : List Effect) → FitWords O effects → MakesWords (value_after O effects)
   made_below [] fit word value below = below
   made_below (effect ∷ effects) fit word value below =
-      made_below effects (λ e within. fit e (inr within)) word (if O.effect_word effect == word then effect_on O effect value else value) (at (O.effect_word effect == word)) where
+      made_below effects (λ e within. fit e (inr within)) word (if O.effect_word effect == word then effect_on O effect value else value)
+      (at (O.effect_word effect == word)) where
         at : (t : Bool) → (if t then effect_on O effect value else value) < 2 ^ 64
         at true = applied_below (O.operation_of effect) value (fit effect (inl refl)) below
         at false = below
@@ -87,7 +84,8 @@ module _ (O : System) where
   completed_word-below : (actors : List (ActorOf O)) (word value : ℕ) → AllFit actors → value < 2 ^ 64 → completed_word O actors word value < 2 ^ 64
   completed_word-below [] word value fit below = below
   completed_word-below (m ∷ actors) word value fit below =
-      completed_word-below actors word (value_after O (effects_left_of O m) word value) (λ k other at. fit (suc k) other at) (made_below (effects_left_of O m) (fit 0 m refl) word value below)
+      completed_word-below actors word (value_after O (effects_left_of O m) word value) (λ k other at. fit (suc k) other at)
+      (made_below (effects_left_of O m) (fit 0 m refl) word value below)
 
   -- so the completed words are words
   pub completed_below : (actors : List (ActorOf O)) (word : ℕ) (words : List ℕ) → AllFit actors → AreWords words → AreWords (completed_from O actors word words)

@@ -5,14 +5,14 @@ use Rattle.turns.specs.System.{System}
 use Rattle.turns.specs.Attempt.{AttemptOf, act}
 use Rattle.turns.specs.declared.act.Act.TheVariants.{Finished}
 use Rattle.turns.specs.World.{World, Does}
-use Rattle.turns.specs.Runs.{Move, Assigns, Steps, Backs, run_from}
+use Rattle.turns.specs.Runs.{Move, Assigns, Steps, Restarts, run_from}
 use Rattle.turns.specs.declared.phase.Phase.TheVariants.{Operates}
 
 -- whether a move is a step of actor k
 abbrev pub is_step_of : {Job : Type 0} → ℕ → Move Job → Bool
 is_step_of k (Assigns j number job) = false
 is_step_of k (Steps j) = j == k
-is_step_of k (Backs j) = false
+is_step_of k (Restarts j) = false
 
 -- how many of these moves are steps of actor k
 abbrev pub own_steps : {Job : Type 0} → ℕ → List (Move Job) → ℕ

@@ -16,3 +16,4 @@ pub mod Denied
 pub mod Outcomes
 pub mod Deciding
 pub mod Layouts
+pub mod Places

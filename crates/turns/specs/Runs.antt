@@ -5,20 +5,20 @@ use Rattle.turns.specs.System.{System}
 use Rattle.turns.specs.Attempt.{act}
 use Rattle.turns.specs.declared.act.Act.{Act}
 use Rattle.turns.specs.declared.act.Act.TheVariants.{Finished}
-use Rattle.turns.specs.World.{World, ActorOf, Idle, Does, moved, assigned, given_back, fresh_world}
+use Rattle.turns.specs.World.{World, ActorOf, Idle, Does, moved, assigned, job_restarted, fresh_world}
 
 -- a move: a job is assigned to an actor under a number, an actor makes its next step, or an actor
 -- gives back
 pub data Move (Job : Type 0) : Type 0 where
   Assigns : ℕ → ℕ → Job → Move Job
   Steps : ℕ → Move Job
-  Backs : ℕ → Move Job
+  Restarts : ℕ → Move Job
 
 -- the actor whose move it is
 abbrev pub mover : {Job : Type 0} → Move Job → ℕ
 mover (Assigns k number job) = k
 mover (Steps k) = k
-mover (Backs k) = k
+mover (Restarts k) = k
 
 -- no move is one of these actors'
 abbrev pub AreOfOthers : {Job : Type 0} → (ℕ → Bool) → List (Move Job) → Type 0
@@ -44,15 +44,15 @@ module _ (O : System) where
   stepped_at k (some Idle) w = w
   stepped_at k (some (Does number a)) w = moved O k number a w
 
-  abbrev pub backed_at : ℕ → Option (ActorOf O) → World O → World O
-  backed_at k none w = w
-  backed_at k (some Idle) w = w
-  backed_at k (some (Does number a)) w = given_back O k number a w
+  abbrev pub restarted_at : ℕ → Option (ActorOf O) → World O → World O
+  restarted_at k none w = w
+  restarted_at k (some Idle) w = w
+  restarted_at k (some (Does number a)) w = job_restarted O k number a w
 
   abbrev pub after_move : World O → Move O.Job → World O
   after_move w (Assigns k number job) = assigned_at k number job (get_elem? w.actors k) w
   after_move w (Steps k) = stepped_at k (get_elem? w.actors k) w
-  after_move w (Backs k) = backed_at k (get_elem? w.actors k) w
+  after_move w (Restarts k) = restarted_at k (get_elem? w.actors k) w
 
   -- the world after moves of any actors, one after another
   abbrev pub run_from : World O → List (Move O.Job) → World O
@@ -66,7 +66,7 @@ module _ (O : System) where
   abbrev pub IsMove : Move O.Job → Type 0
   IsMove (Assigns k number job) = O.IsJob job
   IsMove (Steps k) = ⊤
-  IsMove (Backs k) = ⊤
+  IsMove (Restarts k) = ⊤
 
   abbrev pub AreMoves : List (Move O.Job) → Type 0
   AreMoves [] = ⊤

@@ -104,8 +104,8 @@ module _ (O : System) where
   assigned k number job w = with_actor k (Does number (begin O job)) w
 
   -- the world once actor k gives back
-  abbrev pub given_back : ℕ → ℕ → AttemptOf O → World → World
-  given_back k number a w = with_actor k (Does number (restarted O a)) w
+  abbrev pub job_restarted : ℕ → ℕ → AttemptOf O → World → World
+  job_restarted k number a w = with_actor k (Does number (restarted O a)) w
 
   -- the opening world of `count` actors: all are idle, on the initial words
   abbrev pub fresh_world : ℕ → World

@@ -14,7 +14,7 @@ ghost use Rattle.turns.specs.Attempt.{AttemptOf, act, answer_to, begin, change};
 ghost use Rattle.turns.specs.declared.act.Act.TheVariants.{Free, Make, Finished};
 ghost use Rattle.turns.specs.Attempt.{IsAnswer, IsSeizing, IsValid, read_in, restarted};
 ghost use Rattle.turns.specs.World.{World, ActorOf, RecordOf, Does, moved, place, added};
-ghost use Rattle.turns.specs.World.{assigned, given_back, fresh_world, completed, after, effects_left_of, value_after};
+ghost use Rattle.turns.specs.World.{assigned, job_restarted, fresh_world, completed, after, effects_left_of, value_after};
 ghost use Rattle.turns.specs.Law.{Lawful, IsAvailable, IsLegal, IsRecorded, WasDecided};
 ghost use Rattle.turns.specs.Law.{Holds, HasRequested, MaySeize, holder_at, word_at};
 ghost use Rattle.turns.specs.Runs.{Move, AreMoves, AreOfOthers, after_move, run_from, run_of};
@@ -53,7 +53,7 @@ pub fn every_move_keeps_the_law<F: Family>()
     ensures gives_back { (setting : F.Setting) → let O = F.system setting in
         (w : World O) (k number : ℕ) (a : AttemptOf O)
         → IsSystem O → Lawful O w → get_elem? w.actors k ≡ some (Does number a)
-        → Lawful O (given_back O k number a w) }
+        → Lawful O (job_restarted O k number a w) }
     ensures records { (setting : F.Setting) → let O = F.system setting in
         (w : World O) (k number : ℕ) (a : AttemptOf O)
         → (moved O k number a w).order ≡ w.order ++ added O k number a w }

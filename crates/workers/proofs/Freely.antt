@@ -1,23 +1,10 @@
 -- steps that ask for no lock, and so can't be denied one
-use Rattle.std.proofs.Common.{◌≡◌, ◌≤◌, ℕ, zero, suc, List, refl, sym, ap, subst, ◌∙◌, arith}
-use Rattle.std.specs.Prelude.{Bool, false, Some, None}
-use Rattle.turns.specs.Attempt.{act}
-use Rattle.turns.specs.Denied.{IsDeniedBy}
-use Rattle.turns.specs.Runs.{is_available}
-use Rattle.turns.specs.System.{System}
-use Rattle.turns.specs.World.{ActorOf, RecordOf}
-use Rattle.turns.specs.declared.answer.Answer.{Answer}
-use Rattle.turns.specs.declared.answer.Answer.TheVariants.{Asked, Seized, Held, Preferred, Again, Value, Turn, Done}
-use Rattle.turns.specs.declared.judgement.Judgement.{Judgement}
+use Rattle.std.proofs.Common.{◌≡◌, ◌≤◌, ℕ, zero, suc, List, refl, sym, ap, subst, ◌∙◌, arith, Bool, false, Some, None}
+use Rattle.turns.specs.{Attempt.act, Denied.IsDeniedBy, Runs.is_available, System.System, World.{ActorOf, RecordOf}, declared.answer.Answer.Answer}
+use Rattle.turns.specs.declared.{answer.Answer.TheVariants.{Asked, Seized, Held, Preferred, Again, Value, Turn, Done}, judgement.Judgement.Judgement}
+use Rattle.desks.specs.{Desks.{HasMade, HasStepped, asked_by}, Kept.number_found, Met.DeskOf, Reports.{HasWorked, ended, ended_if, job_of}, Running.HasRun}
+use Rattle.workers.{specs.{Tries.{GoesOnFreely, HasGoneOnFreely, denies}, Workers.HasFinished}, proofs.Trying.{asked_by_step, is_unfinished}}
 use Rattle.turns.specs.declared.judgement.Judgement.TheVariants as judgement
-use Rattle.desks.specs.Desks.{HasMade, HasStepped, asked_by}
-use Rattle.desks.specs.Kept.{number_found}
-use Rattle.desks.specs.Met.{DeskOf}
-use Rattle.desks.specs.Reports.{HasWorked, ended, ended_if, job_of}
-use Rattle.desks.specs.Running.{HasRun}
-use Rattle.workers.specs.Tries.{GoesOnFreely, HasGoneOnFreely, denies}
-use Rattle.workers.specs.Workers.{HasFinished}
-use Rattle.workers.proofs.Trying.{asked_by_step, is_unfinished}
 
 module _ (O : System) where
   abbrev Order : Type 0
@@ -25,21 +12,29 @@ module _ (O : System) where
 
   -- what the laws say of a denial
   abbrev pub Denies : (Answer) → Judgement → Type 0
-  Denies answer judgement = (k : ℕ) (before after : ActorOf O) (seen seen_after : Order) (step : HasStepped O k before after seen seen_after answer) → IsDeniedBy O k (act step.attempt) (number_found O step.world step.attempt) judgement
+  Denies answer judgement =
+      (k : ℕ) (before after : ActorOf O) (seen seen_after : Order) (step : HasStepped O k before after seen seen_after answer)
+      → IsDeniedBy O k (act step.attempt) (number_found O step.world step.attempt) judgement
 
   -- an actor that makes a step had a job under way
-  pub stepping_busy : (k : ℕ) (before after : ActorOf O) (seen seen_after : Order) (answer : Answer) → HasStepped O k before after seen seen_after answer → is_available O before ≡ false
+  pub stepping_busy : (k : ℕ) (before after : ActorOf O) (seen seen_after : Order) (answer : Answer) → HasStepped O k before after seen seen_after answer
+      → is_available O before ≡ false
   stepping_busy k before after seen seen_after answer step = ap (is_available O) step.before_is ∙ is_unfinished O (act step.attempt) step.goes_on
 
-  module _ (held : (holder : ℕ) → Denies (Held holder) (judgement.Held holder)) (preferred : (other : ℕ) → Denies (Preferred other) (judgement.Preferred other)) where
+  module _ (held : (holder : ℕ) → Denies (Held holder) (judgement.Held holder))
+      (preferred : (other : ℕ) → Denies (Preferred other) (judgement.Preferred other)) where
     asked_none : (lock : O.Lock) → None ≡ Some lock → ⊥
     asked_none lock e = cc
 
     -- a step that asks for no lock is denied none
-    pub denied_none : (k : ℕ) (before after : ActorOf O) (seen seen_after : Order) (answer : Answer) → HasStepped O k before after seen seen_after answer → asked_by before ≡ None → denies answer ≡ false
+    pub denied_none : (k : ℕ) (before after : ActorOf O) (seen seen_after : Order) (answer : Answer) → HasStepped O k before after seen seen_after answer
+        → asked_by before ≡ None → denies answer ≡ false
     denied_none k before after seen seen_after answer step none = by answer step where
-      asks : (answer : Answer) (judgement : Judgement) (step : HasStepped O k before after seen seen_after answer) → IsDeniedBy O k (act step.attempt) (number_found O step.world step.attempt) judgement → ⊥
-      asks answer judgement step denial = asked_none denial.lock (sym none ∙ ap asked_by step.before_is ∙ asked_by_step O k (number_found O step.world step.attempt) step.attempt judgement denial)
+      asks : (answer : Answer) (judgement : Judgement) (step : HasStepped O k before after seen seen_after answer)
+          → IsDeniedBy O k (act step.attempt) (number_found O step.world step.attempt) judgement → ⊥
+      asks answer judgement step denial =
+          asked_none denial.lock (sym none ∙ ap asked_by step.before_is
+          ∙ asked_by_step O k (number_found O step.world step.attempt) step.attempt judgement denial)
 
       by : (answer : Answer) → HasStepped O k before after seen seen_after answer → denies answer ≡ false
       by (Asked word) step = refl
@@ -52,7 +47,9 @@ module _ (O : System) where
       by Done step = refl
 
     -- so a desk that has made such steps, and whose job goes on, has gone on freely
-    pub made_freely : {Setting : Type 0} (count : ℕ) (desk : DeskOf O Setting) (m : ActorOf O) (seen : Order) → HasMade O desk.number count desk.actor m desk.seen seen → is_available O m ≡ false → HasGoneOnFreely O count desk (record desk { actor = m; seen = seen })
+    pub made_freely : {Setting : Type 0} (count : ℕ) (desk : DeskOf O Setting) (m : ActorOf O) (seen : Order)
+        → HasMade O desk.number count desk.actor m desk.seen seen → is_available O m ≡ false
+        → HasGoneOnFreely O count desk (record desk { actor = m; seen = seen })
     made_freely zero desk m seen made busy = λ i. record desk { actor = made.0 i; seen = made.1 i }
     made_freely {Setting} (suc count) desk m seen made busy =
         let between : ActorOf O = made.0 in
@@ -66,12 +63,18 @@ module _ (O : System) where
           denied_none desk.number between m seen_between seen made.2 step made.4,
         )
 
-    pub runs_freely : {Setting : Type 0} (count : ℕ) (desk after : DeskOf O Setting) → HasRun O count desk after → is_available O after.actor ≡ false → GoesOnFreely O desk after
-    runs_freely {Setting} count desk after run busy = (busy, (count, subst (λ (d : DeskOf O Setting). HasGoneOnFreely O count desk d) (sym run.same) (made_freely count desk after.actor after.seen run.made busy)))
+    pub runs_freely : {Setting : Type 0} (count : ℕ) (desk after : DeskOf O Setting) → HasRun O count desk after → is_available O after.actor ≡ false
+        → GoesOnFreely O desk after
+    runs_freely {Setting} count desk after run busy = (
+      busy,
+      (count, subst (λ (d : DeskOf O Setting). HasGoneOnFreely O count desk d) (sym run.same) (made_freely count desk after.actor after.seen run.made busy)),
+    )
 
   -- steps made freely, and then more of them
-  pub freely_both : {Setting : Type 0} (count more : ℕ) (desk between after : DeskOf O Setting) → HasGoneOnFreely O count desk between → HasGoneOnFreely O more between after → (all : ℕ) × (count ≤ all) × HasGoneOnFreely O all desk after
-  freely_both {Setting} count zero desk between after one other = (count, omega arith, subst (λ (d : DeskOf O Setting). HasGoneOnFreely O count desk d) (sym other) one)
+  pub freely_both : {Setting : Type 0} (count more : ℕ) (desk between after : DeskOf O Setting) → HasGoneOnFreely O count desk between
+      → HasGoneOnFreely O more between after → (all : ℕ) × (count ≤ all) × HasGoneOnFreely O all desk after
+  freely_both {Setting} count zero desk between after one other =
+      (count, omega arith, subst (λ (d : DeskOf O Setting). HasGoneOnFreely O count desk d) (sym other) one)
   freely_both count (suc more) desk between after one other =
       let first = freely_both count more desk between other.0 one other.2 in
       (suc first.0, omega (arith, first.1), (other.0, other.1, first.2, other.3, other.4))

@@ -1,27 +1,16 @@
 -- tries at a job, one after another
-use Rattle.std.proofs.Common.{◌≡◌, ◌≢◌, ℕ, zero, suc, ◌+◌, ◌≤◌, ◌^◌, ◌++◌, List, [], ◌∷◌, length, refl, sym, ap, subst, ◌∙◌, inl, inr, arith}
-use Rattle.std.specs.Prelude.{Bool, true, false, Option, Some, None, OnOk, Result, Ok, Err, is_err, option_map, ◌⊎◌}
+use Rattle.std.proofs.Common.{◌≡◌, ◌≢◌, ℕ, zero, suc, ◌+◌, ◌≤◌, ◌^◌, ◌++◌, List, [], ◌∷◌, length, refl, sym, ap, subst, ◌∙◌, inl, inr, arith, Bool, true, false}
+use Rattle.std.proofs.Common.{Option, Some, None, OnOk, Result, Ok, Err, is_err, option_map, ◌⊎◌}
 use Rattle.turns.specs.Attempt.{AttemptOf, act, act_in, answer_to, asked_in, begin, changed, closing_act, free_act, next, operated, rest_of}
-use Rattle.turns.specs.Denied.{IsDeniedBy}
-use Rattle.turns.specs.Outcomes.{IsPastTurn, begun_anew}
-use Rattle.turns.specs.Runs.{is_available, is_finished}
-use Rattle.turns.specs.System.{System}
-use Rattle.turns.specs.World.{ActorOf, Does, Idle, RecordOf}
-use Rattle.turns.specs.declared.act.Act.{Act}
-use Rattle.turns.specs.declared.act.Act.TheVariants.{Finished, Request, Seize, Withdraw, Free, Test, Turn, Make}
-use Rattle.turns.specs.declared.answer.Answer.{Answer}
-use Rattle.turns.specs.declared.answer.Answer.TheVariants.{Done, Held, Preferred}
-use Rattle.turns.specs.declared.judgement.Judgement.{Judgement}
-use Rattle.turns.specs.declared.judgement.Judgement.TheVariants as judgement
-use Rattle.turns.specs.declared.phase.Phase.{Phase}
+use Rattle.turns.specs.{Denied.IsDeniedBy, Outcomes.{IsPastTurn, given_back}, Runs.{is_available, is_finished}, System.System}
+use Rattle.turns.specs.{World.{ActorOf, Does, Idle, RecordOf}, declared.act.Act.{Act, TheVariants.{Finished, Request, Seize, Withdraw, Free, Test, Turn, Make}}}
+use Rattle.turns.specs.declared.{answer.Answer.{Answer, TheVariants.{Done, Held, Preferred}}, judgement.Judgement.Judgement, phase.Phase.Phase}
 use Rattle.turns.specs.declared.phase.Phase.TheVariants.{Requests, Seizes, Tests, Turns, Withdraws, GivesBack, Operates}
-use Rattle.desks.specs.Desks.{HasGivenBack, HasStepped, asked_by}
-use Rattle.desks.specs.Kept.{number_found}
-use Rattle.desks.specs.Met.{DeskOf}
-use Rattle.desks.specs.Running.{IsOperating, NothingLeftPastTurn}
+use Rattle.desks.specs.{Desks.{HasGivenBack, HasStepped, asked_by}, Kept.number_found, Met.DeskOf, Running.{IsOperating, NothingLeftPastTurn}}
+use Rattle.workers.specs.Tries.{HasCome, HasGoneOnFreely, HasMissed, HasDone, HasGivenUp, HasGoneOn, HasLogged, HasPersisted, HasTried, HasTriedInVain}
+use Rattle.workers.specs.{Tries.{IsAtBeginning, IsStuck, IsTry, MakesUpTo, Reported, denies, record_of}, Workers.HasFinished}
+use Rattle.turns.specs.declared.judgement.Judgement.TheVariants as judgement
 use Rattle.desks.specs.declared.progress.Progress.TheVariants as progress
-use Rattle.workers.specs.Tries.{HasCome, HasGoneOnFreely, HasMissed, HasDone, HasGivenUp, HasGoneOn, HasLogged, HasPersisted, HasTried, HasTriedInVain, IsAtBeginning, IsStuck, IsTry, MakesUpTo, Reported, denies, record_of}
-use Rattle.workers.specs.Workers.{HasFinished}
 
 pub not_both : (b : Bool) → b ≡ true → b ≡ false → ⊥
 not_both b one other = absurd cc
@@ -35,18 +24,25 @@ module _ (O : System) where
   Order = List (RecordOf O)
 
   -- one step more of a job that goes on
-  pub gone_more : {Setting : Type 0} (count : ℕ) (desk between after : DeskOf O Setting) (answer : Answer) → HasGoneOn O count desk between → HasCome O between after (progress.Moved answer) → HasGoneOn O (count + 1) desk after
+  pub gone_more : {Setting : Type 0} (count : ℕ) (desk between after : DeskOf O Setting) (answer : Answer) → HasGoneOn O count desk between
+      → HasCome O between after (progress.Moved answer) → HasGoneOn O (count + 1) desk after
   gone_more {Setting} count desk between after answer gone came =
       let one : suc count ≡ count + 1 = omega arith in
       subst (λ (n : ℕ). HasGoneOn O n desk after) one (between, answer, gone, came)
 
   -- an idle desk that is asked for steps stays as it is
-  pub idle_still : {Setting : Type 0} (count most : ℕ) (desk between after : DeskOf O Setting) → HasGoneOn O count desk between → HasCome O between after progress.Idle → MakesUpTo O most desk after None
-  idle_still {Setting} zero most desk between after gone came = inr (subst (λ (d : DeskOf O Setting). is_available O d.actor ≡ true) gone came.advanced.0, came.same ∙ (λ i. record between { actor = came.advanced.1 i; seen = came.advanced.2 i }) ∙ gone)
+  pub idle_still : {Setting : Type 0} (count most : ℕ) (desk between after : DeskOf O Setting) → HasGoneOn O count desk between
+      → HasCome O between after progress.Idle → MakesUpTo O most desk after None
+  idle_still {Setting} zero most desk between after gone came =
+      inr (
+        subst (λ (d : DeskOf O Setting). is_available O d.actor ≡ true) gone came.advanced.0,
+        came.same ∙ (λ i. record between { actor = came.advanced.1 i; seen = came.advanced.2 i }) ∙ gone,
+      )
   idle_still (suc count) most desk between after gone came = absurd (not_both _ came.advanced.0 gone.3.advanced.1)
 
   -- a desk whose job was under way still has it after steps that did not end it
-  pub busy_after : {Setting : Type 0} (most : ℕ) (desk after : DeskOf O Setting) → is_available O desk.actor ≡ false → MakesUpTo O most desk after None → is_available O after.actor ≡ false
+  pub busy_after : {Setting : Type 0} (most : ℕ) (desk after : DeskOf O Setting) → is_available O desk.actor ≡ false → MakesUpTo O most desk after None
+      → is_available O after.actor ≡ false
   busy_after {Setting} zero desk after busy (inl gone) = subst (λ (d : DeskOf O Setting). is_available O d.actor ≡ false) (sym gone) busy
   busy_after (suc most) desk after busy (inl gone) = gone.3.advanced.1
   busy_after most desk after busy (inr idle) = absurd (not_both _ idle.0 busy)
@@ -94,7 +90,8 @@ module _ (O : System) where
     pub phase : b.phase ≡ Operates turn
     pub fewer : suc (length b.effects + length b.held) ≤ length a.effects + length a.held
 
-  operated_so : (turn : ℕ) (a : AttemptOf O) (effects : List O.Effect) → a.phase ≡ Operates turn → a.effects ≡ effects → closing_act effects a.held ≢ Finished → Operated turn a (operated a effects)
+  operated_so : (turn : ℕ) (a : AttemptOf O) (effects : List O.Effect) → a.phase ≡ Operates turn → a.effects ≡ effects → closing_act effects a.held ≢ Finished
+      → Operated turn a (operated a effects)
   operated_so turn a [] past is some =
       let shorter = rest_shorter a.held some in
       record { phase = past; fewer = omega (arith, shorter) }
@@ -104,7 +101,9 @@ module _ (O : System) where
 
   next_past_turn : (k found turn : ℕ) (a : AttemptOf O) → a.phase ≡ Operates turn → act a ≢ Finished → Operated turn a (next O k a found)
   next_past_turn k found turn a past some =
-      let closes : operated a a.effects ≡ next O k a found = sym (ap (λ (phase : Phase O.Lock ℕ). changed O a phase (answer_to O k (act_in phase a) found)) past ∙ ap (changed O a (Operates turn)) (answer_closing k a.effects a.held found)) in
+      let closes : operated a a.effects ≡ next O k a found =
+      sym (ap (λ (phase : Phase O.Lock ℕ). changed O a phase (answer_to O k (act_in phase a) found)) past
+      ∙ ap (changed O a (Operates turn)) (answer_closing k a.effects a.held found)) in
       subst (Operated turn a) closes (operated_so turn a a.effects past refl (subst (λ (phase : Phase O.Lock ℕ). act_in phase a ≢ Finished) past some))
 
   same_attempt : (number other : ℕ) (a b : AttemptOf O) → ◌≡◌ {A = ActorOf O} (Does number a) (Does other b) → a ≡ b
@@ -115,7 +114,8 @@ module _ (O : System) where
     pub fewer : suc (left_past_turn after) ≤ left_past_turn m
     pub operates : is_available O after ≡ false → IsOperating after
 
-  pub steps_on : (k : ℕ) (m after : ActorOf O) (seen seen_after : Order) (answer : Answer) → IsOperating m → HasStepped O k m after seen seen_after answer → StepsOn m after
+  pub steps_on : (k : ℕ) (m after : ActorOf O) (seen seen_after : Order) (answer : Answer) → IsOperating m → HasStepped O k m after seen seen_after answer
+      → StepsOn m after
   steps_on k Idle after seen seen_after answer operates stepped = absurd operates
   steps_on k (Does number a) after seen seen_after answer operates stepped =
       let same = same_attempt number stepped.number a stepped.attempt stepped.before_is in
@@ -136,7 +136,8 @@ module _ (O : System) where
   beginning_busy Idle is = absurd is
   beginning_busy (Does number a) is = begins_busy a is
 
-  at_beginning : (number : ℕ) (a : AttemptOf O) (phase : Phase O.Lock ℕ) → a.phase ≡ phase → (IsPastTurn phase → ⊥) → IsAtBeginning O (Does number (begun_anew O phase a))
+  at_beginning : (number : ℕ) (a : AttemptOf O) (phase : Phase O.Lock ℕ) → a.phase ≡ phase → (IsPastTurn phase → ⊥)
+      → IsAtBeginning O (Does number (given_back O phase a))
   at_beginning number a (Requests lock) is before = refl
   at_beginning number a (Seizes lock expected) is before = refl
   at_beginning number a (Tests word) is before = refl
@@ -146,9 +147,10 @@ module _ (O : System) where
   at_beginning number a (Operates turn) is before = absurd (before (turn, refl))
 
   -- a job that is not past its turn is at its beginning once its desk has given back
-  pub given_back : (k : ℕ) (m after : ActorOf O) (seen seen_after : Order) → is_available O m ≡ false → NothingLeftPastTurn m → HasGivenBack O k m after seen seen_after → IsAtBeginning O after
-  given_back k Idle after seen seen_after busy nothing back = absurd cc
-  given_back k (Does number a) after seen seen_after busy nothing back =
+  pub gave_back : (k : ℕ) (m after : ActorOf O) (seen seen_after : Order) → is_available O m ≡ false → NothingLeftPastTurn m
+      → HasGivenBack O k m after seen seen_after → IsAtBeginning O after
+  gave_back k Idle after seen seen_after busy nothing back = absurd cc
+  gave_back k (Does number a) after seen seen_after busy nothing back =
       subst (IsAtBeginning O) (sym back.after_is) (at_beginning number a a.phase refl (λ past. goes_on (act a) busy (nothing past)))
 
   -- a step that asks for a lock is that of a phase that does
@@ -185,25 +187,29 @@ module _ (O : System) where
     at (effect ∷ effects) e = absurd cc
 
   -- so the desk that was denied had asked for this lock
-  pub asked_by_step : (k found : ℕ) (a : AttemptOf O) (judgement : Judgement) → (denial : IsDeniedBy O k (act a) found judgement) → asked_in a.phase ≡ Some denial.lock
+  pub asked_by_step : (k found : ℕ) (a : AttemptOf O) (judgement : Judgement) → (denial : IsDeniedBy O k (act a) found judgement)
+      → asked_in a.phase ≡ Some denial.lock
   asked_by_step k found a judgement denial = elim denial.asks [
     | inl asks ↦ requests_in a a.phase denial.lock asks
     | inr (expected, seizes, other) ↦ seizes_in a a.phase denial.lock expected seizes
   ]
 
   -- a denial names the lock that the desk asked for
-  module _ {Setting : Type 0} (patience count : ℕ) (desk asking after : DeskOf O Setting) (word : Option ℕ) (is : word ≡ option_map O.lock_word (asked_by asking.actor)) (gone : HasGoneOnFreely O count desk asking) where
+  module _ {Setting : Type 0} (patience count : ℕ) (desk asking after : DeskOf O Setting) (word : Option ℕ)
+      (is : word ≡ option_map O.lock_word (asked_by asking.actor)) (gone : HasGoneOnFreely O count desk asking) where
     abbrev SteppedWith : Answer → Type 0
     SteppedWith answer = HasStepped O asking.number asking.actor after.actor asking.seen after.seen answer
 
     abbrev DeniesBy : (answer : Answer) → Judgement → Type 0
     DeniesBy answer judgement = (step : SteppedWith answer) → IsDeniedBy O asking.number (act step.attempt) (number_found O step.world step.attempt) judgement
 
-    named : (answer : Answer) (judgement : Judgement) → HasCome O asking after (progress.Moved answer) → denies answer ≡ true → DeniesBy answer judgement → HasMissed O patience desk after word
+    named : (answer : Answer) (judgement : Judgement) → HasCome O asking after (progress.Moved answer) → denies answer ≡ true → DeniesBy answer judgement
+        → HasMissed O patience desk after word
     named answer judgement came denied by =
         let step = came.advanced.0 in
         let denial = by step in
-        let asks : asked_by asking.actor ≡ Some denial.lock = ap asked_by step.before_is ∙ asked_by_step asking.number (number_found O step.world step.attempt) step.attempt judgement denial in
+        let asks : asked_by asking.actor ≡ Some denial.lock =
+        ap asked_by step.before_is ∙ asked_by_step asking.number (number_found O step.world step.attempt) step.attempt judgement denial in
         subst (HasMissed O patience desk after) (sym (is ∙ ap (option_map O.lock_word) asks)) (record {
           count = count;
           asking = asking;
@@ -216,28 +222,36 @@ module _ (O : System) where
           is_denial = denied;
         })
 
-    pub denied_by : (answer : Answer) → HasCome O asking after (progress.Moved answer) → denies answer ≡ true → ((holder : ℕ) → DeniesBy (Held holder) (judgement.Held holder)) → ((other : ℕ) → DeniesBy (Preferred other) (judgement.Preferred other)) → HasMissed O patience desk after word
+    pub denied_by : (answer : Answer) → HasCome O asking after (progress.Moved answer) → denies answer ≡ true
+        → ((holder : ℕ) → DeniesBy (Held holder) (judgement.Held holder)) → ((other : ℕ) → DeniesBy (Preferred other) (judgement.Preferred other))
+        → HasMissed O patience desk after word
     denied_by (Held holder) came denied held preferred = named (Held holder) (judgement.Held holder) came denied (held holder)
     denied_by (Preferred other) came denied held preferred = named (Preferred other) (judgement.Preferred other) came denied (preferred other)
     denied_by answer came denied held preferred = absurd cc
 
   -- one step more that was denied none
-  pub freely_more : {Setting : Type 0} (count : ℕ) (desk between after : DeskOf O Setting) (answer : Answer) → HasGoneOnFreely O count desk between → HasCome O between after (progress.Moved answer) → denies answer ≡ false → HasGoneOnFreely O (count + 1) desk after
+  pub freely_more : {Setting : Type 0} (count : ℕ) (desk between after : DeskOf O Setting) (answer : Answer) → HasGoneOnFreely O count desk between
+      → HasCome O between after (progress.Moved answer) → denies answer ≡ false → HasGoneOnFreely O (count + 1) desk after
   freely_more {Setting} count desk between after answer gone came free =
       let one : suc count ≡ count + 1 = omega arith in
       subst (λ (n : ℕ). HasGoneOnFreely O n desk after) one (between, answer, gone, came, free)
 
-  pub tried_finished : {Setting : Type 0} (patience : ℕ) (desk after : DeskOf O Setting) (came : Result (Reported O) (Option ℕ)) → IsTry O patience desk after came → HasFinished O desk after (record_of came)
+  pub tried_finished : {Setting : Type 0} (patience : ℕ) (desk after : DeskOf O Setting) (came : Result (Reported O) (Option ℕ))
+      → IsTry O patience desk after came → HasFinished O desk after (record_of came)
   tried_finished patience desk after (Ok reported) is = is.0
   tried_finished patience desk after (Err denied) is = is.finished
 
   module _ (Answers : ℕ → Option ℕ → Bool → Type 0) (patience : ℕ) where
     -- one more try in vain
-    pub tried_more : {Setting : Type 0} (made : ℕ) (desk between after : DeskOf O Setting) (denied : Option ℕ) → HasTriedInVain O Answers patience made desk between → IsTry O patience between after (Err denied) → Answers (suc made) denied true → HasTriedInVain O Answers patience (suc made) desk after
+    pub tried_more : {Setting : Type 0} (made : ℕ) (desk between after : DeskOf O Setting) (denied : Option ℕ)
+        → HasTriedInVain O Answers patience made desk between → IsTry O patience between after (Err denied) → Answers (suc made) denied true
+        → HasTriedInVain O Answers patience (suc made) desk after
     tried_more made desk between after denied tried one again = (between, denied, tried, one, again)
 
     -- one more try, which ended the job
-    pub tried_well : {Setting : Type 0} (made : ℕ) (desk between after : DeskOf O Setting) (reported : Reported O) → HasTriedInVain O Answers patience made desk between → IsTry O patience between after (Ok reported) → HasTried O Answers patience desk after (Some reported)
+    pub tried_well : {Setting : Type 0} (made : ℕ) (desk between after : DeskOf O Setting) (reported : Reported O)
+        → HasTriedInVain O Answers patience made desk between → IsTry O patience between after (Ok reported)
+        → HasTried O Answers patience desk after (Some reported)
     tried_well made desk between after reported tried one = record {
       made = made;
       between = between;
@@ -246,7 +260,9 @@ module _ (O : System) where
     }
 
     -- one more try in vain, after which there is no further one
-    pub tried_last : {Setting : Type 0} (made : ℕ) (desk between after : DeskOf O Setting) (denied : Option ℕ) → HasTriedInVain O Answers patience made desk between → IsTry O patience between after (Err denied) → Answers (suc made) denied false → HasTried O Answers patience desk after None
+    pub tried_last : {Setting : Type 0} (made : ℕ) (desk between after : DeskOf O Setting) (denied : Option ℕ)
+        → HasTriedInVain O Answers patience made desk between → IsTry O patience between after (Err denied) → Answers (suc made) denied false
+        → HasTried O Answers patience desk after None
     tried_last made desk between after denied tried one no_more = record {
       made = made;
       between = between;
@@ -257,7 +273,8 @@ module _ (O : System) where
     }
 
     -- as many tries were made in vain as can be counted
-    pub tried_all : {Setting : Type 0} (made : ℕ) (desk after : DeskOf O Setting) → made + 2 ≡ 2 ^ 64 → HasTriedInVain O Answers patience made desk after → HasTried O Answers patience desk after None
+    pub tried_all : {Setting : Type 0} (made : ℕ) (desk after : DeskOf O Setting) → made + 2 ≡ 2 ^ 64 → HasTriedInVain O Answers patience made desk after
+        → HasTried O Answers patience desk after None
     tried_all zero desk after all tried = absurd (omega (arith, all))
     tried_all (suc made) desk after all tried = record {
       made = made;
@@ -279,17 +296,25 @@ module _ (O : System) where
 
   module _ (Answers : ℕ → Option ℕ → Bool → Type 0) (Patience : ℕ → ℕ → Type 0) where
     -- a free desk that was given a job, and persisted in it, has done it
-    pub done_free : {Setting : Type 0} (desk begun after : DeskOf O Setting) (number : ℕ) (job : O.Job) (result : Option (Reported O)) → is_available O desk.actor ≡ true → begun ≡ record desk { actor = Does number (begin O job) } → HasPersisted O Answers Patience begun after result → HasDone O Answers Patience desk after number job result
+    pub done_free : {Setting : Type 0} (desk begun after : DeskOf O Setting) (number : ℕ) (job : O.Job) (result : Option (Reported O))
+        → is_available O desk.actor ≡ true → begun ≡ record desk { actor = Does number (begin O job) } → HasPersisted O Answers Patience begun after result
+        → HasDone O Answers Patience desk after number job result
     done_free {Setting} desk begun after number job result free is persisted = record {
       busy = λ busy. absurd (not_both _ free busy);
       tried = λ free.
-          let tried = persisted.tried (subst (λ (d : DeskOf O Setting). is_available O d.actor ≡ false) (sym is) refl) in
-          (tried.0, subst (λ (d : DeskOf O Setting). Patience d.number tried.0) is tried.1, subst (λ (d : DeskOf O Setting). HasTried O Answers tried.0 d after result) is tried.2);
+          let tried = persisted.tried (subst (λ (d : DeskOf O Setting). is_available O d.actor ≡ false) (sym is) refl) in (
+            tried.0,
+            subst (λ (d : DeskOf O Setting). Patience d.number tried.0) is tried.1,
+            subst (λ (d : DeskOf O Setting). HasTried O Answers tried.0 d after result) is tried.2,
+          );
     }
 
     -- what a worker came to at a free desk's new job was logged
-    pub logged_done : {Setting : Type 0} (desk begun after : DeskOf O Setting) (number : ℕ) (job : O.Job) (HadNoRoom NoRoom : Type 0) (log between log_after : List (Reported O)) (result : Bool) → is_available O desk.actor ≡ true → begun ≡ record desk { actor = Does number (begin O job) } → (NoRoom → ⊥) → between ≡ log
-        → HasLogged O (HasPersisted O Answers Patience begun after) NoRoom between log_after result → HasLogged O (HasDone O Answers Patience desk after number job) HadNoRoom log log_after result
+    pub logged_done : {Setting : Type 0} (desk begun after : DeskOf O Setting) (number : ℕ) (job : O.Job) (HadNoRoom NoRoom : Type 0)
+        (log between log_after : List (Reported O)) (result : Bool) → is_available O desk.actor ≡ true → begun
+        ≡ record desk { actor = Does number (begin O job) } → (NoRoom → ⊥) → between ≡ log
+        → HasLogged O (HasPersisted O Answers Patience begun after) NoRoom between log_after result
+        → HasLogged O (HasDone O Answers Patience desk after number job) HadNoRoom log log_after result
     logged_done desk begun after number job HadNoRoom NoRoom log between log_after true free is room same logged =
         (logged.0, logged.1 ∙ ap (λ (l : List (Reported O)). l ++ logged.0 ∷ []) same, done_free desk begun after number job (Some logged.0) free is logged.2)
     logged_done desk begun after number job HadNoRoom NoRoom log between log_after false free is room same logged = (logged.0 ∙ same, by logged.1) where
@@ -298,12 +323,17 @@ module _ (O : System) where
       by (inr full) = absurd (room full)
 
     -- a worker whose desk was free has logged its job, and the desk is free again
-    pub logged_free : {Setting : Type 0} (desk after : DeskOf O Setting) (number : ℕ) (job : O.Job) (HadNoRoom : Type 0) (log log_after : List (Reported O)) (result : Bool) → is_available O desk.actor ≡ true → result ≡ true → HasLogged O (HasDone O Answers Patience desk after number job) HadNoRoom log log_after result → is_available O after.actor ≡ true
+    pub logged_free : {Setting : Type 0} (desk after : DeskOf O Setting) (number : ℕ) (job : O.Job) (HadNoRoom : Type 0) (log log_after : List (Reported O))
+        (result : Bool) → is_available O desk.actor ≡ true → result
+        ≡ true → HasLogged O (HasDone O Answers Patience desk after number job) HadNoRoom log log_after result → is_available O after.actor ≡ true
     logged_free desk after number job HadNoRoom log log_after true free yes_logged logged = (logged.2.tried free).2.last.1
     logged_free desk after number job HadNoRoom log log_after false free yes_logged logged = absurd cc
 
     -- or it is stuck
-    pub logged_stuck : {Setting : Type 0} (desk after : DeskOf O Setting) (number : ℕ) (job : O.Job) (len capacity : ℕ) (HadNoRoom : Type 0) (log log_after : List (Reported O)) (result : Bool) → is_available O desk.actor ≡ true → result ≡ false → (log_after ≡ log → HadNoRoom → len ≡ capacity) → HasLogged O (HasDone O Answers Patience desk after number job) HadNoRoom log log_after result → IsStuck O Answers len capacity after.actor
+    pub logged_stuck : {Setting : Type 0} (desk after : DeskOf O Setting) (number : ℕ) (job : O.Job) (len capacity : ℕ) (HadNoRoom : Type 0)
+        (log log_after : List (Reported O)) (result : Bool) → is_available O desk.actor ≡ true → result
+        ≡ false → (log_after ≡ log → HadNoRoom → len ≡ capacity) → HasLogged O (HasDone O Answers Patience desk after number job) HadNoRoom log log_after result
+        → IsStuck O Answers len capacity after.actor
     logged_stuck desk after number job len capacity HadNoRoom log log_after true free not_logged full logged = absurd cc
     logged_stuck desk after number job len capacity HadNoRoom log log_after false free not_logged full logged = by logged.1 where
       by : HasDone O Answers Patience desk after number job None ⊎ HadNoRoom → IsStuck O Answers len capacity after.actor

@@ -1,17 +1,9 @@
 -- whatever moves are made, the records before them begin the records after them
-use Rattle.std.proofs.Common.{◌≡◌, ℕ, List, [], ◌∷◌, ◌++◌, append_assoc, append-nil, inl, inr, refl, sym, ◌∙◌, ap, subst}
-use Rattle.std.specs.Prelude.{Option, Some, None, slice_get}
-use Rattle.xbar_plan.specs.Tables.{Tables}
-use Rattle.xbar_office.specs.declared.job.Job.{Job}
-use Rattle.xbar_office.specs.declared.reply.Record.{Record}
-use Rattle.xbar_moves.specs.AtWork.{answer_to_step}
-use Rattle.xbar_moves.specs.Exchange.{Exchange, Marker}
-use Rattle.xbar_moves.specs.Moves.{assigned, added_record, refusal, after_step}
-use Rattle.xbar_moves.specs.Runs.{Assigns, BeginsAnew, GivesBack, Move, Settles, Steps, after_move, run_from, unless_refused}
-use Rattle.xbar_moves.specs.declared.assign_fault.AssignFault.{AssignFault}
-use Rattle.xbar_moves.proofs.GivenBack.{records_stay}
-use Rattle.xbar_moves.proofs.Keeping.{KeepsRestarts, KeepsSteps, begun_keeps, settled_keeps}
-use Rattle.xbar_moves.proofs.StepCases.{step_cases}
+use Rattle.std.proofs.Common.{◌≡◌, ℕ, List, [], ◌∷◌, ◌++◌, append_assoc, append-nil, inl, inr, refl, sym, ◌∙◌, ap, subst, Option, Some, None, slice_get}
+use Rattle.{xbar_plan.specs.Tables.Tables, xbar_office.specs.declared.{job.Job.Job, reply.Record.Record}}
+use Rattle.xbar_moves.specs.{AtWork.answer_to_step, Exchange.{Exchange, Marker}, Moves.{assigned, added_record, refusal, after_step}, Runs.{Assigns, Restarts}}
+use Rattle.xbar_moves.specs.{Runs.{GivesBack, Move, Settles, Steps, after_move, run_from, unless_refused}, declared.assign_fault.AssignFault.AssignFault}
+use Rattle.xbar_moves.proofs.{GivenBack.records_stay, Keeping.{KeepsRestarts, KeepsSteps, restarts_keep, settled_keeps}, StepCases.step_cases}
 
 -- these records begin those of an office
 abbrev pub Begin : List Record → Exchange → Type 0
@@ -21,7 +13,8 @@ begin_own : (e : Exchange) → Begin e.records e
 begin_own e = ([], sym (append-nil e.records))
 
 -- no record is added by a job that is assigned
-assigned_adds : (e : Exchange) (k number : ℕ) (job : Job) (found : Option Marker) → slice_get e.markers k ≡ found → (assigned k number job e).records ≡ e.records
+assigned_adds : (e : Exchange) (k number : ℕ) (job : Job) (found : Option Marker) → slice_get e.markers k ≡ found
+    → (assigned k number job e).records ≡ e.records
 assigned_adds e k number job None there = rw there refl
 assigned_adds e k number job (Some m) there = rw there refl
 
@@ -33,7 +26,8 @@ module _ (plan : Tables) (first : List Record) where
   step_begins : (k : ℕ) → KeepsSteps plan (Begin first) k
   step_begins k e begins = elim (step_cases plan e k) [
     | inl same ↦ subst (Begin first) (sym same) begins
-    | inr made ↦ more_begin e (added_record k made.number made.attempt (answer_to_step k e.words made.attempt)) (after_step plan k e) (ap (λ (x : Exchange). x.records) made.is) begins
+    | inr made ↦ more_begin e (added_record k made.number made.attempt (answer_to_step k e.words made.attempt)) (after_step plan k e)
+        (ap (λ (x : Exchange). x.records) made.is) begins
   ]
 
   restart_begins : (k : ℕ) → KeepsRestarts plan (Begin first) k
@@ -47,7 +41,7 @@ module _ (plan : Tables) where
     by None = ([], assigned_adds e k number job (slice_get e.markers k) refl ∙ sym (append-nil e.records))
     by (Some fault) = begin_own e
   move_begins e (Steps k) = step_begins plan e.records k e (begin_own e)
-  move_begins e (BeginsAnew k) = begun_keeps plan (Begin e.records) k (restart_begins plan e.records k) e (begin_own e)
+  move_begins e (Restarts k) = restarts_keep plan (Begin e.records) k (restart_begins plan e.records k) e (begin_own e)
   move_begins e (GivesBack k) = ([], records_stay plan e k ∙ sym (append-nil e.records))
   move_begins e Settles = settled_keeps plan (Begin e.records) (step_begins plan e.records) (restart_begins plan e.records) e (begin_own e)
 

@@ -1,52 +1,30 @@
 -- what every office of markers keeps: it is lawful, its attempts are valid, and there is room for
 -- the records to come
-use Rattle.std.proofs.Common.{◌≡◌, ◌≢◌, ℕ, zero, suc, ◌+◌, ◌<◌, ◌≤◌, ◌⊎◌, List, [], ◌∷◌, length, length-append, length-set, inl, inr, refl, sym, ◌∙◌, ap, subst, arith}
-use Rattle.std.specs.Prelude.{Option, Some, None, is_some, if◌then◌else◌, slice_get, slice_set, true, false}
-use Rattle.std.proofs.lemmas.List.{length-map}
-use Rattle.std.proofs.lemmas.Option.{none-some, same_Some, slice_get_within}
-use Rattle.turns.specs.Attempt as generic
-use Rattle.turns.specs.Attempt.{act, act_in, begin_with, change, changed, closing_act, free_act, operated, restarted, restarted_in, turn_in, IsAnswer, IsAnswerTo}
-use Rattle.turns.specs.declared.act.Act.TheVariants.{Finished, Request, Seize, Withdraw, Free, Test, Turn as TakeTurn, Make}
-use Rattle.turns.specs.World as worlds
-use Rattle.turns.specs.World.{Idle, Does, added_in, place}
-use Rattle.turns.specs.Runs.{is_finished}
-use Rattle.turns.specs.declared.answer.Answer.{Answer}
-use Rattle.turns.specs.declared.answer.Answer.TheVariants.{Asked, Seized, Held, Preferred, Again, Value, Turn, Done}
-use Rattle.turns.specs.declared.phase.Phase.TheVariants.{Requests, Seizes, Tests, Turns, Withdraws, GivesBack, Operates}
-use Rattle.turns.proofs.ExactWords.{answers_fit}
-use Rattle.turns.proofs.Lists.{one_or_two}
-use Rattle.xbar_equip.specs.declared.conn.Conn.{Conn}
-use Rattle.xbar_plan.specs.Tables.{Tables}
-use Rattle.xbar_plan.specs.Lawful.{IsLawful}
-use Rattle.xbar_office.specs.Legal.{IsJob}
-use Rattle.xbar_office.specs.declared.job.Job.{Job}
-use Rattle.xbar_office.specs.declared.reply.Reply.{Reply}
-use Rattle.xbar_jobs.specs.Attempt.{Act, Attempt, Phase}
-use Rattle.xbar_jobs.specs.Jobs.{first_conn}
-use Rattle.xbar_jobs.specs.Office.{office}
-use Rattle.xbar_jobs.specs.Standing.{IsValid}
-use Rattle.xbar_jobs.specs.declared.effect.Effect.{Effect}
-use Rattle.xbar_jobs.proofs.AttemptStands.{stands_after, stands_again, stands_begun}
-use Rattle.xbar_moves.specs.AtWork.{answer_to_step}
-use Rattle.xbar_moves.specs.Exchange.{Exchange, IsLawfulExchange, Marker, Work, fresh_exchange, turned}
-use Rattle.xbar_moves.specs.Holding.{IsAt}
-use Rattle.xbar_moves.specs.Moves.{added_record, refusal, after_step, with_work, work_anew}
-use Rattle.xbar_core.specs.Standing.{HasRoom, IsExchange, StandsAt, waiting, waits, waits_in}
-use Rattle.xbar_moves.specs.declared.kind.Kind.{Kind}
-use Rattle.xbar_moves.proofs.Actors.{actor_at}
-use Rattle.xbar_moves.proofs.Jobs.{assigned_is, past_turn}
-use Rattle.xbar_moves.proofs.Markers.{marker_else, marker_set}
-use Rattle.xbar_core.proofs.WaitingMarkers.{waiting_most, waiting_set, waits_most}
-use Rattle.xbar_moves.proofs.Keeping.{KeepsRestarts, anew_keeps}
-use Rattle.xbar_moves.proofs.StepCases.{step_cases}
+use Rattle.std.proofs.Common.{◌≡◌, ◌≢◌, ℕ, zero, suc, ◌+◌, ◌<◌, ◌≤◌, ◌⊎◌, List, [], ◌∷◌, length, length-append, length-set, inl, inr, refl, sym, ◌∙◌, ap, subst}
+use Rattle.std.proofs.Common.{arith, Option, Some, None, is_some, if◌then◌else◌, slice_get, slice_set, true, false}
+use Rattle.std.proofs.lemmas.{List.length-map, Option.{none-some, same_Some, slice_get_within}}
+use Rattle.turns.specs.Attempt.{act, act_in, begin_with, change, changed, closing_act, free_act, operated, restarted, restarted_in, turn_in, IsAnswerTo}
+use Rattle.turns.specs.declared.{act.Act.TheVariants.{Finished, Request, Seize}, answer.Answer.{Answer, TheVariants.{Value, Done}}}
+use Rattle.turns.specs.{declared.phase.Phase.TheVariants.{Requests, Seizes, Tests, Turns, Withdraws, GivesBack, Operates}, World.{Idle, Does, added_in, place}}
+use Rattle.{turns.{specs.Runs.is_finished, proofs.{ExactWords.answers_fit, Lists.one_or_two}}, xbar_equip.specs.declared.conn.Conn.Conn}
+use Rattle.{xbar_plan.specs.{Tables.Tables, Lawful.IsLawful}, xbar_office.specs.{Legal.IsJob, declared.{job.Job.Job, reply.Reply.Reply}}}
+use Rattle.xbar_jobs.specs.{Attempt.{Attempt, Phase}, Jobs.first_conn, Office.office, Standing.IsValid, declared.effect.Effect.Effect}
+use Rattle.xbar_jobs.proofs.{AttemptStands.{stands_after, stands_again, stands_begun}, StepsMade.fits_asking}
+use Rattle.xbar_moves.specs.{AtWork.answer_to_step, Exchange.{Exchange, IsLawfulExchange, Marker, Work, fresh_exchange, turned}, Holding.IsAt}
+use Rattle.xbar_moves.{specs.{Moves.{added_record, refusal, after_step, with_work, restarted_work}, declared.kind.Kind.Kind}, proofs.Actors.actor_at}
+use Rattle.xbar_moves.proofs.{Jobs.{assigned_is, past_turn}, Markers.{marker_else, marker_set}, Keeping.{KeepsRestarts, restarted_keeps}, StepCases.step_cases}
 use Rattle.xbar_moves.proofs.Worlds.{added_at, answer_is, found_by, lawful_assigned, lawful_opened, lawful_stepped, restarted_lawful, taken}
+use Rattle.xbar_core.{specs.Standing.{HasRoom, IsExchange, StandsAt, waiting, waits, waits_in}, proofs.WaitingMarkers.{waiting_most, waiting_set, waits_most}}
+use Rattle.turns.specs.Attempt as generic
+use Rattle.turns.specs.World as worlds
 
 module _ (plan : Tables) where
   abbrev pub AreStanding : List Marker → Type 0
   AreStanding markers = (k : ℕ) (m : Marker) → slice_get markers k ≡ Some m → StandsAt plan m.work
 
   -- with one marker set to a valid attempt, all are valid
-  pub stands_set : (markers : List Marker) (k : ℕ) (m was : Marker) → slice_get markers k ≡ Some was → StandsAt plan m.work → AreStanding markers → AreStanding (slice_set markers k m)
+  pub stands_set : (markers : List Marker) (k : ℕ) (m was : Marker) → slice_get markers k ≡ Some was → StandsAt plan m.work → AreStanding markers
+      → AreStanding (slice_set markers k m)
   stands_set markers k m was there valid all j other at = by (one_or_two j k) where
     by : (j ≡ k) ⊎ (j ≢ k) → StandsAt plan other.work
     by (inl one) =
@@ -58,31 +36,13 @@ module _ (plan : Tables) where
   job_there : (e : Exchange) (k n : ℕ) (a : Attempt) → IsLawfulExchange plan e → IsAt e k n a → IsJob a.job
   job_there e k n a law at = (law.sound k n a (actor_at e k n a at)).job
 
-  -- the office's markers ask first, so no request is answered that the connector is seized
-  fits_asking : (step : Act) (answer : Answer) → IsAnswer (office plan) step answer → IsAnswerTo step answer
-  fits_asking Finished answer is = is
-  fits_asking (Request conn) (Asked word) is = tt
-  fits_asking (Request conn) Seized is = absurd cc
-  fits_asking (Request conn) (Held holder) is = is
-  fits_asking (Request conn) (Preferred other) is = is
-  fits_asking (Request conn) (Again word) is = is
-  fits_asking (Request conn) (Value value) is = is
-  fits_asking (Request conn) (Turn number) is = is
-  fits_asking (Request conn) Done is = is
-  fits_asking (Seize conn expected) answer is = is
-  fits_asking (Withdraw conn) answer is = is
-  fits_asking (Free conn) answer is = is
-  fits_asking (Test word) answer is = is
-  fits_asking TakeTurn answer is = is
-  fits_asking (Make effect) answer is = is
-
   -- the answer to its next step is of that step's kind
   told_fits : (e : Exchange) (k : ℕ) (a : Attempt) → IsLawfulExchange plan e → is_finished (act a) ≡ false →
       IsAnswerTo (act a) (answer_to_step k e.words a)
   told_fits e k a law goes =
       let acts : act a ≢ Finished = λ rests. let two : true ≡ false = ap is_finished (sym rests) ∙ goes in cc in
       subst (λ (answer : Answer). IsAnswerTo (act a) answer) (sym (answer_is plan k e.words a))
-      (fits_asking (act a) _ (answers_fit (office plan) k (act a) (found_by plan e.words a) acts (law.are_words (place (office plan) (act a)))))
+      (fits_asking plan (act a) _ (answers_fit (office plan) k (act a) (found_by plan e.words a) acts (law.are_words (place (office plan) (act a)))))
 
   pub stands_there : (e : Exchange) (k n : ℕ) (a : Attempt) → IsExchange plan e → IsAt e k n a → IsValid plan a
   stands_there e k n a was at = subst (StandsAt plan) at.work (was.valid k at.marker at.there)
@@ -91,7 +51,8 @@ module _ (plan : Tables) where
   operated_waits a turn [] at = subst (λ (phase : Phase). waits_in phase ≤ 0) (sym at) (omega arith)
   operated_waits a turn (effect ∷ effects) at = subst (λ (phase : Phase). waits_in phase ≤ 0) (sym at) (omega arith)
 
-  closed_waits : (k found turn : ℕ) (a : Attempt) (effects : List Effect) (held : List Conn) → a.phase ≡ Operates turn → waits_in (changed (office plan) a (Operates turn) (generic.answer_to (office plan) k (closing_act effects held) found)).phase ≤ 0
+  closed_waits : (k found turn : ℕ) (a : Attempt) (effects : List Effect) (held : List Conn) → a.phase ≡ Operates turn
+      → waits_in (changed (office plan) a (Operates turn) (generic.answer_to (office plan) k (closing_act effects held) found)).phase ≤ 0
   closed_waits k found turn a [] [] at = operated_waits a turn a.effects at
   closed_waits k found turn a [] (conn ∷ held) at = operated_waits a turn a.effects at
   closed_waits k found turn a (effect ∷ effects) held at = operated_waits a turn a.effects at
@@ -101,22 +62,30 @@ module _ (plan : Tables) where
   few_recorded k n found job (Some reply) = omega arith
 
   -- with a turn there is one record more, and one turn less to come
-  fewer_in : (k n found : ℕ) (a : Attempt) (phase : Phase) → a.phase ≡ phase → waits_in (changed (office plan) a phase (generic.answer_to (office plan) k (act_in phase a) found)).phase + length (added_in (office plan) k n a phase found) ≤ waits_in phase
-  fewer_in k n found a (Requests conn) at = let most = waits_most (changed (office plan) a (Requests conn) (generic.answer_to (office plan) k (Request conn) found)).phase in omega (arith, most)
-  fewer_in k n found a (Seizes conn expected) at = let most = waits_most (changed (office plan) a (Seizes conn expected) (generic.answer_to (office plan) k (Seize conn expected) found)).phase in omega (arith, most)
+  fewer_in : (k n found : ℕ) (a : Attempt) (phase : Phase) → a.phase ≡ phase
+      → waits_in (changed (office plan) a phase (generic.answer_to (office plan) k (act_in phase a) found)).phase
+      + length (added_in (office plan) k n a phase found) ≤ waits_in phase
+  fewer_in k n found a (Requests conn) at = let most =
+      waits_most (changed (office plan) a (Requests conn) (generic.answer_to (office plan) k (Request conn) found)).phase in omega (arith, most)
+  fewer_in k n found a (Seizes conn expected) at = let most =
+      waits_most (changed (office plan) a (Seizes conn expected) (generic.answer_to (office plan) k (Seize conn expected) found)).phase in omega (arith, most)
   fewer_in k n found a (Tests word) at = let most = waits_most (changed (office plan) a (Tests word) (Value found)).phase in omega (arith, most)
   fewer_in k n found a Turns at = let few = few_recorded k n found a.job a.reply in omega (arith, few)
   fewer_in k n found a (Withdraws conn) at = let most = waits_most (changed (office plan) a (Withdraws conn) Done).phase in omega (arith, most)
-  fewer_in k n found a GivesBack at = let most = waits_most (changed (office plan) a GivesBack (generic.answer_to (office plan) k (free_act a.held) found)).phase in omega (arith, most)
+  fewer_in k n found a GivesBack at = let most =
+      waits_most (changed (office plan) a GivesBack (generic.answer_to (office plan) k (free_act a.held) found)).phase in omega (arith, most)
   fewer_in k n found a (Operates turn) at = let none = closed_waits k found turn a a.effects a.held at in omega (arith, none)
 
-  pub fewer : (k n : ℕ) (words : List ℕ) (a : Attempt) → waits_in (change (office plan) a (answer_to_step k words a)).phase + length (added_record k n a (answer_to_step k words a)) ≤ waits_in a.phase
+  pub fewer : (k n : ℕ) (words : List ℕ) (a : Attempt)
+      → waits_in (change (office plan) a (answer_to_step k words a)).phase + length (added_record k n a (answer_to_step k words a)) ≤ waits_in a.phase
   fewer k n words a =
       let found : ℕ = found_by plan words a in
       let one = fewer_in k n found a a.phase refl in
       let size : length (added_record k n a (generic.answer_to (office plan) k (act a) found)) ≡ length (added_in (office plan) k n a a.phase found) =
-      sym (length-map (added_record k n a (generic.answer_to (office plan) k (act a) found)) turned) ∙ ap (length {A = worlds.Record Job Reply}) (added_at plan k n found a a.phase) in
-      subst (λ (answer : Answer). waits_in (change (office plan) a answer).phase + length (added_record k n a answer) ≤ waits_in a.phase) (sym (answer_is plan k words a)) (omega (arith, one, size))
+      sym (length-map (added_record k n a (generic.answer_to (office plan) k (act a) found)) turned)
+      ∙ ap (length {A = worlds.Record Job Reply}) (added_at plan k n found a a.phase) in
+      subst (λ (answer : Answer). waits_in (change (office plan) a answer).phase + length (added_record k n a answer) ≤ waits_in a.phase)
+      (sym (answer_is plan k words a)) (omega (arith, one, size))
 
   module _ (laws : IsLawful plan) where
     -- a step keeps it
@@ -129,7 +98,8 @@ module _ (plan : Tables) where
             let a = made.attempt in
             subst (λ (x : Exchange). AreStanding x.markers) (sym made.is)
             (stands_set e.markers k _ made.at.marker made.at.there
-            (stands_after plan a (answer_to_step k e.words a) laws (job_there e k made.number a was.lawful made.at) (told_fits e k a was.lawful made.goes) (stands_there e k made.number a was made.at)) was.valid)
+            (stands_after plan a (answer_to_step k e.words a) laws (job_there e k made.number a was.lawful made.at) (told_fits e k a was.lawful made.goes)
+            (stands_there e k made.number a was made.at)) was.valid)
       ]
 
     -- so does a marker that is to give back, and begins its job anew
@@ -140,7 +110,8 @@ module _ (plan : Tables) where
     }
 
     -- and a job that is assigned
-    pub kept_assigned : (e : Exchange) (k n : ℕ) (m : Marker) (job : Job) → IsExchange plan e → IsJob job → slice_get e.markers k ≡ Some m → refusal e k job ≡ None → IsExchange plan (with_work k m (Does n (begin_with (first_conn job) job)) e)
+    pub kept_assigned : (e : Exchange) (k n : ℕ) (m : Marker) (job : Job) → IsExchange plan e → IsJob job → slice_get e.markers k ≡ Some m
+        → refusal e k job ≡ None → IsExchange plan (with_work k m (Does n (begin_with (first_conn job) job)) e)
     kept_assigned e k n m job was in_range there free = record {
       lawful = subst (IsLawfulExchange plan) (assigned_is e k m there n job) (lawful_assigned plan e k n job laws was.lawful in_range free);
       valid = stands_set e.markers k _ m there (stands_begun plan job laws in_range) was.valid;
@@ -161,25 +132,28 @@ module _ (plan : Tables) where
   ]
 
   -- and so does a marker that begins its job anew
-  anew_at : (a : Attempt) (turned : Option ℕ) → turn_in a.phase ≡ turned → waits_in (restarted (office plan) a).phase ≤ waits_in a.phase
-  anew_at a None is =
+  restarted_job : (a : Attempt) (turned : Option ℕ) → turn_in a.phase ≡ turned → waits_in (restarted (office plan) a).phase ≤ waits_in a.phase
+  restarted_job a None is =
       let most = waits_most (restarted (office plan) a).phase in
       let one : waits_in a.phase ≡ 1 = ap (λ (turned : Option ℕ). if is_some turned then 0 else 1) is in
       omega (arith, most, one)
-  anew_at a (Some turn) is = let same = ap (λ (phase : Phase). waits_in (restarted_in (office plan) phase a).phase) (past_turn a.phase turn is) in omega (arith, same)
+  restarted_job a (Some turn) is = let same = ap (λ (phase : Phase). waits_in (restarted_in (office plan) phase a).phase) (past_turn a.phase turn is) in
+      omega (arith, same)
 
-  anew_waits : (work : Work) → waits (work_anew plan work) ≤ waits work
-  anew_waits Idle = omega arith
-  anew_waits (Does n a) = anew_at a (turn_in a.phase) refl
+  restarted_waits : (work : Work) → waits (restarted_work plan work) ≤ waits work
+  restarted_waits Idle = omega arith
+  restarted_waits (Does n a) = restarted_job a (turn_in a.phase) refl
 
-  pub room_anew : (e : Exchange) (k room : ℕ) (m : Marker) → slice_get e.markers k ≡ Some m → HasRoom e room → HasRoom (with_work k m (work_anew plan m.work) e) room
+  pub room_anew : (e : Exchange) (k room : ℕ) (m : Marker) → slice_get e.markers k ≡ Some m → HasRoom e room
+      → HasRoom (with_work k m (restarted_work plan m.work) e) room
   room_anew e k room m there fits =
-      let one = waiting_set e.markers k (record m { work = work_anew plan m.work }) m there in
-      let less = anew_waits m.work in
+      let one = waiting_set e.markers k (record m { work = restarted_work plan m.work }) m there in
+      let less = restarted_waits m.work in
       omega (arith, one, less)
 
-  pub kept_anew : (e : Exchange) (k : ℕ) (m : Marker) → IsLawful plan → IsExchange plan e → slice_get e.markers k ≡ Some m → IsExchange plan (with_work k m (work_anew plan m.work) e)
-  kept_anew e k m laws was there = anew_keeps plan (IsExchange plan) k (kept_restarted laws k) e m was there
+  pub kept_anew : (e : Exchange) (k : ℕ) (m : Marker) → IsLawful plan → IsExchange plan e → slice_get e.markers k ≡ Some m
+      → IsExchange plan (with_work k m (restarted_work plan m.work) e)
+  kept_anew e k m laws was there = restarted_keeps plan (IsExchange plan) k (kept_restarted laws k) e m was there
 
   -- an office opens so
   idle_opened : (kinds : List Kind) (k : ℕ) (m : Marker) → slice_get (fresh_exchange kinds).markers k ≡ Some m → m.work ≡ Idle

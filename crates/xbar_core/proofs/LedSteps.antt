@@ -1,26 +1,12 @@
 -- the steps that an attempt makes by itself are its marker's next steps in the office
-use Rattle.std.proofs.Common.{◌≡◌, ℕ, zero, suc, ◌+◌, false, List, [], ◌∷◌, ◌++◌, append-nil, arith, refl, sym, ◌∙◌, ap}
-use Rattle.std.specs.Prelude.{Some, slice_get, slice_set}
-use Rattle.turns.specs.Attempt.{IsAnswerTo, act, change}
-use Rattle.turns.specs.declared.act.Act.TheVariants.{Finished, Request, Seize, Withdraw, Free, Test, Turn, Make}
-use Rattle.turns.specs.Runs.{is_finished}
-use Rattle.turns.specs.World.{Does}
-use Rattle.turns.specs.declared.answer.Answer.{Answer}
+use Rattle.std.proofs.Common.{◌≡◌, ℕ, zero, suc, ◌+◌, false, List, [], ◌∷◌, ◌++◌, append-nil, arith, refl, sym, ◌∙◌, ap, Some, slice_get, slice_set}
+use Rattle.turns.specs.{Attempt.{IsAnswerTo, act, change}, declared.act.Act.TheVariants.{Finished, Request, Seize, Withdraw, Free, Test, Turn, Make}}
+use Rattle.turns.specs.{declared.answer.Answer.Answer, Runs.is_finished, World.Does}
+use Rattle.{attempts.specs.WalkOnWords.{IsNoTurn, LeadsTo, Moment, stepped, answer_at}, xbar_plan.specs.Tables.Tables}
+use Rattle.{xbar_office.specs.declared.reply.Record.Record, xbar_jobs.specs.{Attempt.{Act, Attempt, next_step}, Office.office, OnWords.words_after}}
+use Rattle.{xbar_jobs.proofs.PastTurn.words_led, xbar_moves.specs.{Exchange.{Exchange, Marker, Work}, Holding.IsAt, declared.kind.Kind.Kind}}
+use Rattle.xbar_moves.{specs.Moves.{added_record, after_step, steps}, proofs.{Markers.{marker_same, marker_set}, StepCases.step_made, Worlds.answer_is}}
 use Rattle.turns.specs.declared.answer.Answer.TheVariants as answer
-use Rattle.attempts.specs.WalkOnWords.{IsNoTurn, LeadsTo, Moment, stepped, answer_at}
-use Rattle.xbar_plan.specs.Tables.{Tables}
-use Rattle.xbar_office.specs.declared.reply.Record.{Record}
-use Rattle.xbar_jobs.specs.Attempt.{Act, Attempt, next_step}
-use Rattle.xbar_jobs.specs.Office.{office}
-use Rattle.xbar_jobs.specs.OnWords.{words_after}
-use Rattle.xbar_jobs.proofs.PastTurn.{words_led}
-use Rattle.xbar_moves.specs.Exchange.{Exchange, Marker, Work}
-use Rattle.xbar_moves.specs.Holding.{IsAt}
-use Rattle.xbar_moves.specs.declared.kind.Kind.{Kind}
-use Rattle.xbar_moves.specs.Moves.{added_record, after_step, steps}
-use Rattle.xbar_moves.proofs.Markers.{marker_same, marker_set}
-use Rattle.xbar_moves.proofs.StepCases.{step_made}
-use Rattle.xbar_moves.proofs.Worlds.{answer_is}
 
 -- a marker that is set twice is what it is set to last
 set_again : (markers : List Marker) (k : ℕ) (first last : Marker) → slice_set (slice_set markers k first) k last ≡ slice_set markers k last
@@ -41,7 +27,8 @@ module _ (plan : Tables) (k : ℕ) where
   not_rest (Make effect) goes = refl
 
   -- and only a turn is answered by one
-  no_record : (number : ℕ) (a : Attempt) (one : Act) (answer_at : Answer) → IsNoTurn (office plan) one → IsAnswerTo one answer_at → added_record k number a answer_at ≡ []
+  no_record : (number : ℕ) (a : Attempt) (one : Act) (answer_at : Answer) → IsNoTurn (office plan) one → IsAnswerTo one answer_at
+      → added_record k number a answer_at ≡ []
   no_record number a one (answer.Asked word) goes answers = refl
   no_record number a one answer.Seized goes answers = refl
   no_record number a one (answer.Held holder) goes answers = refl
@@ -66,25 +53,45 @@ module _ (plan : Tables) (k : ℕ) where
     abbrev at_moment : (x : Moment (office plan)) → IsAt (with_moment e m number x) k number x.attempt
     at_moment x = record { marker = record m { work = Does number x.attempt }; there = marker_set e.markers k _ was there; work = refl }
 
-    one_led : (x : Moment (office plan)) → IsNoTurn (office plan) (act x.attempt) → IsAnswerTo (act x.attempt) (answer_at (office plan) k x) → after_step plan k (with_moment e m number x) ≡ with_moment e m number (stepped (office plan) k x)
+    one_led : (x : Moment (office plan)) → IsNoTurn (office plan) (act x.attempt) → IsAnswerTo (act x.attempt) (answer_at (office plan) k x)
+        → after_step plan k (with_moment e m number x) ≡ with_moment e m number (stepped (office plan) k x)
     one_led x goes answers =
         let a : Attempt = x.attempt in
         let here : Marker = record m { work = Does number a } in
         step_made plan (with_moment e m number x) k number a (at_moment x) (not_rest (act a) goes)
-        ∙ ap (λ (t : Answer). record { words = words_after k (next_step a) x.words; markers = slice_set (slice_set e.markers k here) k (record m { work = Does number (change (office plan) a t) }); records = e.records ++ added_record k number a t }) (answer_is plan k x.words a)
-        ∙ ap (λ (all : List Record). record { words = words_after k (next_step a) x.words; markers = slice_set (slice_set e.markers k here) k (record m { work = Does number (change (office plan) a (answer_at (office plan) k x)) }); records = all }) (ap (λ (more : List Record). e.records ++ more) (no_record number a (act a) (answer_at (office plan) k x) goes answers) ∙ append-nil e.records)
-        ∙ ap (λ (all : List Marker). record { words = words_after k (next_step a) x.words; markers = all; records = e.records }) (set_again e.markers k here (record m { work = Does number (change (office plan) a (answer_at (office plan) k x)) }))
-        ∙ ap (λ (all : List ℕ). record { words = all; markers = slice_set e.markers k (record m { work = Does number (change (office plan) a (answer_at (office plan) k x)) }); records = e.records }) (words_led plan k a x.words)
+        ∙ ap (λ (t : Answer).
+        record {
+          words = words_after k (next_step a) x.words;
+          markers = slice_set (slice_set e.markers k here) k (record m { work = Does number (change (office plan) a t) });
+          records = e.records ++ added_record k number a t;
+        }) (answer_is plan k x.words a)
+        ∙ ap (λ (all : List Record).
+        record {
+          words = words_after k (next_step a) x.words;
+          markers = slice_set (slice_set e.markers k here) k (record m { work = Does number (change (office plan) a (answer_at (office plan) k x)) });
+          records = all;
+        }) (ap (λ (more : List Record). e.records ++ more) (no_record number a (act a) (answer_at (office plan) k x) goes answers) ∙ append-nil e.records)
+        ∙ ap (λ (all : List Marker). record { words = words_after k (next_step a) x.words; markers = all; records = e.records })
+        (set_again e.markers k here (record m { work = Does number (change (office plan) a (answer_at (office plan) k x)) }))
+        ∙ ap (λ (all : List ℕ).
+        record {
+          words = all;
+          markers = slice_set e.markers k (record m { work = Does number (change (office plan) a (answer_at (office plan) k x)) });
+          records = e.records;
+        }) (words_led plan k a x.words)
 
-    all_led : (count : ℕ) (x last : Moment (office plan)) → LeadsTo (office plan) k count x last → steps plan k count (with_moment e m number x) ≡ with_moment e m number last
+    all_led : (count : ℕ) (x last : Moment (office plan)) → LeadsTo (office plan) k count x last
+        → steps plan k count (with_moment e m number x) ≡ with_moment e m number last
     unfolding steps LeadsTo
     all_led zero x last leads = ap (with_moment e m number) leads
     all_led (suc count) x last leads = ap (steps plan k count) (one_led x leads.0 leads.1.0) ∙ all_led count (stepped (office plan) k x) last leads.1.1
 
   -- the marker's steps set the words and its attempt, and leave the records
-  pub steps_led : (e : Exchange) (number : ℕ) (a : Attempt) (at : IsAt e k number a) (count : ℕ) (last : Moment (office plan)) → LeadsTo (office plan) k count (record { attempt = a; words = e.words }) last → steps plan k count e ≡ with_moment e at.marker number last
+  pub steps_led : (e : Exchange) (number : ℕ) (a : Attempt) (at : IsAt e k number a) (count : ℕ) (last : Moment (office plan))
+      → LeadsTo (office plan) k count (record { attempt = a; words = e.words }) last → steps plan k count e ≡ with_moment e at.marker number last
   steps_led e number a at count last leads =
-      let here : slice_set e.markers k (record at.marker { work = Does number a }) ≡ e.markers = ap (λ (w : Work). slice_set e.markers k (record at.marker { work = w })) (sym at.work) ∙ marker_same e.markers k at.marker at.there in
+      let here : slice_set e.markers k (record at.marker { work = Does number a }) ≡ e.markers =
+      ap (λ (w : Work). slice_set e.markers k (record at.marker { work = w })) (sym at.work) ∙ marker_same e.markers k at.marker at.there in
       ap (λ (all : List Marker). steps plan k count (record { words = e.words; markers = all; records = e.records })) (sym here)
       ∙ all_led e at.marker at.marker number at.there count (record { attempt = a; words = e.words }) last leads
 
@@ -92,17 +99,26 @@ module _ (plan : Tables) (k : ℕ) where
   pub steps_then : (count more : ℕ) (e : Exchange) → steps plan k (count + more) e ≡ steps plan k more (steps plan k count e)
   unfolding steps
   steps_then zero more e = let none : 0 + more ≡ more = omega arith in ap (λ (n : ℕ). steps plan k n e) none
-  steps_then (suc count) more e = let one : suc count + more ≡ suc (count + more) = omega arith in ap (λ (n : ℕ). steps plan k n e) one ∙ steps_then count more (after_step plan k e)
+  steps_then (suc count) more e = let one : suc count + more ≡ suc (count + more) = omega arith in
+      ap (λ (n : ℕ). steps plan k n e) one ∙ steps_then count more (after_step plan k e)
 
   -- the same of a marker, whose kind and whose job's number stay
-  pub marker_led : (e : Exchange) (m : Marker) (kind : Kind) (number after_number : ℕ) (a after : Attempt) (words : List ℕ) (count : ℕ) → slice_get e.markers k ≡ Some m → m ≡ record { kind = kind; work = Does number a } → after_number ≡ number → LeadsTo (office plan) k count (record { attempt = a; words = e.words }) (record { attempt = after; words = words }) → record { words = words; markers = slice_set e.markers k (record { kind = kind; work = Does after_number after }); records = e.records } ≡ steps plan k count e
+  pub marker_led : (e : Exchange) (m : Marker) (kind : Kind) (number after_number : ℕ) (a after : Attempt) (words : List ℕ) (count : ℕ)
+      → slice_get e.markers k ≡ Some m → m ≡ record { kind = kind; work = Does number a } → after_number ≡ number
+      → LeadsTo (office plan) k count (record { attempt = a; words = e.words }) (record { attempt = after; words = words })
+      → record { words = words; markers = slice_set e.markers k (record { kind = kind; work = Does after_number after }); records = e.records }
+      ≡ steps plan k count e
   marker_led e m kind number after_number a after words count there is same leads =
       let at : IsAt e k number a = record { marker = m; there = there; work = ap (λ (x : Marker). x.work) is } in
       ap (λ (n : ℕ). record { words = words; markers = slice_set e.markers k (record { kind = kind; work = Does n after }); records = e.records }) same
-      ∙ ap (λ (x : Marker). record { words = words; markers = slice_set e.markers k (record { kind = x.kind; work = Does number after }); records = e.records }) (sym is)
+      ∙ ap (λ (x : Marker). record { words = words; markers = slice_set e.markers k (record { kind = x.kind; work = Does number after }); records = e.records })
+      (sym is)
       ∙ sym (steps_led e number a at count (record { attempt = after; words = words }) leads)
 
   -- without a step nothing changes
-  pub marker_rests : (e : Exchange) (m same : Marker) → slice_get e.markers k ≡ Some m → same ≡ m → record { words = e.words; markers = slice_set e.markers k same; records = e.records } ≡ steps plan k 0 e
+  pub marker_rests : (e : Exchange) (m same : Marker) → slice_get e.markers k ≡ Some m → same ≡ m
+      → record { words = e.words; markers = slice_set e.markers k same; records = e.records } ≡ steps plan k 0 e
   unfolding steps
-  marker_rests e m same there is = ap (λ (all : List Marker). record { words = e.words; markers = all; records = e.records }) (ap (slice_set e.markers k) is ∙ marker_same e.markers k m there)
+  marker_rests e m same there is =
+      ap (λ (all : List Marker). record { words = e.words; markers = all; records = e.records })
+      (ap (slice_set e.markers k) is ∙ marker_same e.markers k m there)

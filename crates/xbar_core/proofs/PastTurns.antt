@@ -1,39 +1,19 @@
 -- a job past its turn comes to its end by the steps of its marker, whatever other moves come in between
-use Rattle.std.proofs.Common.{◌≡◌, ◌≢◌, ℕ, ◌+◌, ◌-◌, ◌≤◌, ◌⊎◌, Bool, true, false, List, [], ◌∷◌, length, inl, inr, refl, sym, ◌∙◌, ap, subst, arith}
-use Rattle.std.specs.Prelude.{◌==◌, cond, Option, Some, None, slice_get}
-use Rattle.std.proofs.lemmas.Bool.{eqb-true}
-use Rattle.std.proofs.lemmas.List.Sums.{sum_by-cons}
+use Rattle.std.proofs.Common.{◌≡◌, ◌≢◌, ℕ, ◌+◌, ◌-◌, ◌≤◌, ◌⊎◌, Bool, true, false, List, [], ◌∷◌, length, inl, inr, refl, sym, ◌∙◌, ap, subst, arith, ◌==◌, cond}
+use Rattle.std.proofs.Common.{Option, Some, None, slice_get, eqb-true}
+use Rattle.{std.proofs.lemmas.List.Sums.sum_by-cons, turns.specs.Attempt.{act, act_in, change, changed, closing_act, operated, restarted, restarted_in}}
+use Rattle.turns.specs.{declared.{act.Act.TheVariants.{Free, Finished}, answer.Answer.TheVariants.Done, phase.Phase.TheVariants.Operates}, Runs.is_finished}
+use Rattle.{turns.{specs.World.Does, proofs.{Lists.one_or_two, Runs.rest_is}}, xbar_equip.specs.declared.conn.Conn.Conn, xbar_plan.specs.Tables.Tables}
+use Rattle.{xbar_office.specs.declared.job.Job.Job, xbar_jobs.specs.{Attempt.{Act, Attempt, Phase}, Office.office, declared.effect.Effect.Effect}}
+use Rattle.xbar_moves.specs.{AtWork.answer_to_step, Exchange.{Exchange, is_idle}, Holding.IsAt, Moves.{assigned, refusal, after_step, with_work}, Runs.Assigns}
+use Rattle.xbar_moves.specs.{Runs.{Restarts, GivesBack, Move, Settles, Steps, after_move, unless_refused}, declared.assign_fault.AssignFault.AssignFault}
+use Rattle.xbar_moves.proofs.{Keeping.{KeepsRestarts, KeepsSteps, back_keeps, restarts_keep, settled_keeps}, Jobs.{assigned_is, one_job, set_at, work_at}}
+use Rattle.xbar_moves.proofs.{Markers.marker_else, ReleaseTurns.makes_one, StepCases.{gone_on, step_else}, Stepping.step_idle}
+use Rattle.{xbar_moves.proofs.Worlds.{answer_is, found_by, taken}, xbar_core.specs.Ends.{ComesToEnd, is_step_of, own_steps}}
 use Rattle.turns.specs.Attempt as generic
-use Rattle.turns.specs.Attempt.{act, act_in, change, changed, closing_act, operated, restarted, restarted_in}
-use Rattle.turns.specs.declared.act.Act.TheVariants.{Free, Finished}
-use Rattle.turns.specs.Runs.{is_finished}
-use Rattle.turns.specs.World.{Does}
-use Rattle.turns.specs.declared.answer.Answer.TheVariants.{Done}
-use Rattle.turns.specs.declared.phase.Phase.TheVariants.{Operates}
-use Rattle.turns.proofs.Lists.{one_or_two}
-use Rattle.turns.proofs.Runs.{rest_is}
-use Rattle.xbar_equip.specs.declared.conn.Conn.{Conn}
-use Rattle.xbar_plan.specs.Tables.{Tables}
-use Rattle.xbar_office.specs.declared.job.Job.{Job}
-use Rattle.xbar_jobs.specs.Attempt.{Act, Attempt, Phase}
-use Rattle.xbar_jobs.specs.Office.{office}
-use Rattle.xbar_jobs.specs.declared.effect.Effect.{Effect}
-use Rattle.xbar_moves.specs.AtWork.{answer_to_step}
-use Rattle.xbar_core.specs.Ends.{ComesToEnd, is_step_of, own_steps}
-use Rattle.xbar_moves.specs.Exchange.{Exchange, is_idle}
-use Rattle.xbar_moves.specs.Holding.{IsAt}
-use Rattle.xbar_moves.specs.Moves.{assigned, refusal, after_step, with_work}
-use Rattle.xbar_moves.specs.Runs.{Assigns, BeginsAnew, GivesBack, Move, Settles, Steps, after_move, unless_refused}
-use Rattle.xbar_moves.specs.declared.assign_fault.AssignFault.{AssignFault}
-use Rattle.xbar_moves.proofs.Keeping.{KeepsRestarts, KeepsSteps, back_keeps, begun_keeps, settled_keeps}
-use Rattle.xbar_moves.proofs.Jobs.{assigned_is, one_job, set_at, work_at}
-use Rattle.xbar_moves.proofs.Markers.{marker_else}
-use Rattle.xbar_moves.proofs.ReleaseTurns.{makes_one}
-use Rattle.xbar_moves.proofs.StepCases.{gone_on, step_else}
-use Rattle.xbar_moves.proofs.Stepping.{step_idle}
-use Rattle.xbar_moves.proofs.Worlds.{answer_is, found_by, taken}
 
-module _ (plan : Tables) (e : Exchange) (k number turn : ℕ) (a : Attempt) (conn : Conn) (held : List Conn) (at : IsAt e k number a) (past : a.phase ≡ Operates turn) (none : a.effects ≡ []) (first : a.held ≡ conn ∷ held) where
+module _ (plan : Tables) (e : Exchange) (k number turn : ℕ) (a : Attempt) (conn : Conn) (held : List Conn) (at : IsAt e k number a)
+    (past : a.phase ≡ Operates turn) (none : a.effects ≡ []) (first : a.held ≡ conn ∷ held) where
   -- past its turn, with no effect left, the next step frees the first connector
   frees_first : act a ≡ Free conn
   frees_first =
@@ -42,7 +22,8 @@ module _ (plan : Tables) (e : Exchange) (k number turn : ℕ) (a : Attempt) (con
 
   others_held : change (office plan) a (answer_to_step k e.words a) ≡ record a { held = held }
   others_held =
-      ap (change (office plan) a) (answer_is plan k e.words a ∙ ap (λ (next : Act). generic.answer_to (office plan) k next (found_by plan e.words a)) frees_first)
+      ap (change (office plan) a) (answer_is plan k e.words a
+      ∙ ap (λ (next : Act). generic.answer_to (office plan) k next (found_by plan e.words a)) frees_first)
       ∙ ap (λ (phase : Phase). changed (office plan) a phase Done) past
       ∙ ap (operated a) none
       ∙ ap (λ (all : List Conn). record a { held = generic.rest_of all }) first
@@ -67,7 +48,8 @@ module _ (plan : Tables) (k number turn : ℕ) (job : Job) where
     pub few : length attempt.effects + length attempt.held ≤ left
 
   more_left : (left more : ℕ) (e : Exchange) → left ≤ more → HasLeft left e → HasLeft more e
-  more_left left more e fits has = let few = has.few in record { attempt = has.attempt; at = has.at; past = has.past; job_is = has.job_is; few = omega (arith, few) }
+  more_left left more e fits has = let few = has.few in
+      record { attempt = has.attempt; at = has.at; past = has.past; job_is = has.job_is; few = omega (arith, few) }
 
   -- a marker that stays has as much left
   same_left : (left : ℕ) (e x : Exchange) → slice_get x.markers k ≡ slice_get e.markers k → HasLeft left e → HasLeft left x
@@ -95,11 +77,23 @@ module _ (plan : Tables) (k number turn : ℕ) (job : Job) where
         let none : length a.effects ≡ 0 = ap (length {A = Effect}) these in
         let all : length a.held ≡ length (conn ∷ held) = ap (length {A = Conn}) those in
         let few = has.few in
-        record { attempt = record a { held = held }; at = frees_one plan e k number turn a conn held has.at has.past these those; past = has.past; job_is = has.job_is; few = omega (arith, none, all, few) }
+        record {
+          attempt = record a { held = held };
+          at = frees_one plan e k number turn a conn held has.at has.past these those;
+          past = has.past;
+          job_is = has.job_is;
+          few = omega (arith, none, all, few);
+        }
     less_by (effect ∷ effects) held these those =
         let all : length a.effects ≡ length (effect ∷ effects) = ap (length {A = Effect}) these in
         let few = has.few in
-        record { attempt = record a { effects = effects }; at = (makes_one plan e k number turn a effect effects has.at has.past these).1; past = has.past; job_is = has.job_is; few = omega (arith, all, few) }
+        record {
+          attempt = record a { effects = effects };
+          at = (makes_one plan e k number turn a effect effects has.at has.past these).1;
+          past = has.past;
+          job_is = has.job_is;
+          few = omega (arith, all, few);
+        }
 
     step_less : HasLeft (left - 1) (after_step plan k e)
     step_less = less_by a.effects a.held refl refl
@@ -108,7 +102,8 @@ module _ (plan : Tables) (k number turn : ℕ) (job : Job) where
   step_keeps : (left j : ℕ) → KeepsSteps plan (HasLeft left) j
   step_keeps left j e has = by (one_or_two k j) where
     by : (k ≡ j) ⊎ (k ≢ j) → HasLeft left (after_step plan j e)
-    by (inl one) = subst (λ (i : ℕ). HasLeft left (after_step plan i e)) one (more_left (left - 1) left (after_step plan k e) (omega arith) (step_less left e has))
+    by (inl one) =
+        subst (λ (i : ℕ). HasLeft left (after_step plan i e)) one (more_left (left - 1) left (after_step plan k e) (omega arith) (step_less left e has))
     by (inr two) = same_left left e (after_step plan j e) (step_else plan e j k two) has
 
   -- and to begin anew changes nothing past the turn
@@ -137,7 +132,8 @@ module _ (plan : Tables) (k number turn : ℕ) (job : Job) where
     by (inr two) = same_left left e after (marker_else e.markers j k _ two) has
 
   -- no job is assigned to a marker that has something left
-  assigned_keeps : (left : ℕ) (e : Exchange) (j n : ℕ) (new : Job) (has : HasLeft left e) → is_finished (act has.attempt) ≡ false → (why : Option AssignFault) → refusal e j new ≡ why → HasLeft left (unless_refused why (assigned j n new e) e)
+  assigned_keeps : (left : ℕ) (e : Exchange) (j n : ℕ) (new : Job) (has : HasLeft left e) → is_finished (act has.attempt) ≡ false → (why : Option AssignFault)
+      → refusal e j new ≡ why → HasLeft left (unless_refused why (assigned j n new e) e)
   assigned_keeps left e j n new has goes (Some fault) refused = has
   assigned_keeps left e j n new has goes None free = by (one_or_two k j) where
     busy : refusal e k new ≡ None → ⊥
@@ -146,44 +142,65 @@ module _ (plan : Tables) (k number turn : ℕ) (job : Job) where
         let both : ◌≡◌ {A = Bool} true false = sym to.idle ∙ ap is_idle (work_at e k number has.attempt to.marker has.at to.there) ∙ goes in cc
 
     other : k ≢ j → slice_get (assigned j n new e).markers k ≡ slice_get e.markers k
-    other two = let to = taken e j new free in ap (λ (x : Exchange). slice_get x.markers k) (assigned_is e j to.marker to.there n new) ∙ marker_else e.markers j k _ two
+    other two = let to = taken e j new free in
+        ap (λ (x : Exchange). slice_get x.markers k) (assigned_is e j to.marker to.there n new) ∙ marker_else e.markers j k _ two
 
     by : (k ≡ j) ⊎ (k ≢ j) → HasLeft left (assigned j n new e)
     by (inl one) = absurd (busy (ap (λ (i : ℕ). refusal e i new) one ∙ free))
     by (inr two) = same_left left e (assigned j n new e) (other two) has
 
   -- by a step of it there is one thing less, and by any other move no more
-  move_less : (left rest : ℕ) (e : Exchange) (move : Move) (has : HasLeft left e) → is_finished (act has.attempt) ≡ false → left ≤ cond (is_step_of k move) 1 0 + rest → HasLeft rest (after_move plan e move)
+  move_less : (left rest : ℕ) (e : Exchange) (move : Move) (has : HasLeft left e) → is_finished (act has.attempt) ≡ false
+      → left ≤ cond (is_step_of k move) 1 0 + rest → HasLeft rest (after_move plan e move)
   move_less left rest e (Assigns j n new) has goes few = more_left left rest _ (omega arith) (assigned_keeps left e j n new has goes (refusal e j new) refl)
   move_less left rest e (Steps j) has goes few = by (j == k) refl few where
     by : (own : Bool) → (j == k) ≡ own → left ≤ cond own 1 0 + rest → HasLeft rest (after_step plan j e)
-    by true own below = subst (λ (i : ℕ). HasLeft rest (after_step plan i e)) (sym (eqb-true j k own)) (more_left (left - 1) rest (after_step plan k e) (omega arith) (step_less left e has))
+    by true own below =
+        subst (λ (i : ℕ). HasLeft rest (after_step plan i e)) (sym (eqb-true j k own))
+        (more_left (left - 1) rest (after_step plan k e) (omega arith) (step_less left e has))
     by false other below = more_left left rest (after_step plan j e) (omega arith) (step_keeps left j e has)
-  move_less left rest e (BeginsAnew j) has goes few = more_left left rest _ (omega arith) (begun_keeps plan (HasLeft left) j (restart_keeps left j) e has)
-  move_less left rest e (GivesBack j) has goes few = more_left left rest _ (omega arith) (back_keeps plan (HasLeft left) j (step_keeps left j) (restart_keeps left j) e has)
-  move_less left rest e Settles has goes few = more_left left rest _ (omega arith) (settled_keeps plan (HasLeft left) (step_keeps left) (restart_keeps left) e has)
+  move_less left rest e (Restarts j) has goes few = more_left left rest _ (omega arith) (restarts_keep plan (HasLeft left) j (restart_keeps left j) e has)
+  move_less left rest e (GivesBack j) has goes few =
+      more_left left rest _ (omega arith) (back_keeps plan (HasLeft left) j (step_keeps left j) (restart_keeps left j) e has)
+  move_less left rest e Settles has goes few =
+      more_left left rest _ (omega arith) (settled_keeps plan (HasLeft left) (step_keeps left) (restart_keeps left) e has)
 
   -- with no more left than its steps to come, it comes to its end
   ended_now : (left : ℕ) (e : Exchange) (moves : List Move) (has : HasLeft left e) → act has.attempt ≡ Finished → ComesToEnd plan e moves k number turn job
-  ended_now left e moves has rests = record { before = []; later = moves; split = refl; ended = has.attempt; there = has.at; phase = has.past; job_is = has.job_is; rests = rests }
+  ended_now left e moves has rests =
+      record { before = []; later = moves; split = refl; ended = has.attempt; there = has.at; phase = has.past; job_is = has.job_is; rests = rests }
 
   comes_to_end : (left : ℕ) (e : Exchange) (moves : List Move) → HasLeft left e → left ≤ own_steps k moves → ComesToEnd plan e moves k number turn job
   comes_to_end left e [] has few =
       let none = has.few in
-      ended_now left e [] has (ap (λ (phase : Phase). act_in phase has.attempt) has.past ∙ none_rests has.attempt.effects has.attempt.held (omega (arith, none, few)))
+      ended_now left e [] has (ap (λ (phase : Phase). act_in phase has.attempt) has.past
+      ∙ none_rests has.attempt.effects has.attempt.held (omega (arith, none, few)))
   comes_to_end left e (move ∷ moves) has few =
       let more = sum_by-cons (λ (m : Move). cond (is_step_of k m) 1 0) move moves in
       by (is_finished (act has.attempt)) refl
-      (λ goes. comes_to_end (own_steps k moves) (after_move plan e move) moves (move_less left (own_steps k moves) e move has goes (omega (arith, more, few))) (omega arith)) where
+      (λ goes. comes_to_end (own_steps k moves) (after_move plan e move) moves (move_less left (own_steps k moves) e move has goes (omega (arith, more, few)))
+      (omega arith)) where
         later : ComesToEnd plan (after_move plan e move) moves k number turn job → ComesToEnd plan e (move ∷ moves) k number turn job
-        later end = record { before = move ∷ end.before; later = end.later; split = ap (λ (all : List Move). move ∷ all) end.split; ended = end.ended; there = end.there; phase = end.phase; job_is = end.job_is; rests = end.rests }
+        later end = record {
+          before = move ∷ end.before;
+          later = end.later;
+          split = ap (λ (all : List Move). move ∷ all) end.split;
+          ended = end.ended;
+          there = end.there;
+          phase = end.phase;
+          job_is = end.job_is;
+          rests = end.rests;
+        }
 
-        by : (rest : Bool) → is_finished (act has.attempt) ≡ rest → (is_finished (act has.attempt) ≡ false → ComesToEnd plan (after_move plan e move) moves k number turn job) → ComesToEnd plan e (move ∷ moves) k number turn job
+        by : (rest : Bool) → is_finished (act has.attempt) ≡ rest
+            → (is_finished (act has.attempt) ≡ false → ComesToEnd plan (after_move plan e move) moves k number turn job)
+            → ComesToEnd plan e (move ∷ moves) k number turn job
         by true rests end = ended_now left e (move ∷ moves) has (rest_is (act has.attempt) rests)
         by false goes end = later (end goes)
 
 -- a job past its turn comes to its end within as many steps of its marker as it has effects and connectors left
-pub past_turn_ends : (plan : Tables) (e : Exchange) (moves : List Move) (k number turn : ℕ) (a : Attempt) → IsAt e k number a → a.phase ≡ Operates turn → length a.effects + length a.held ≤ own_steps k moves → ComesToEnd plan e moves k number turn a.job
+pub past_turn_ends : (plan : Tables) (e : Exchange) (moves : List Move) (k number turn : ℕ) (a : Attempt) → IsAt e k number a → a.phase ≡ Operates turn
+    → length a.effects + length a.held ≤ own_steps k moves → ComesToEnd plan e moves k number turn a.job
 past_turn_ends plan e moves k number turn a at past few =
     comes_to_end plan k number turn a.job (length a.effects + length a.held) e moves
     (record { attempt = a; at = at; past = past; job_is = refl; few = omega arith }) few

@@ -1,39 +1,20 @@
 -- a lawful office that settles does so: each marker runs to its end in its turn, and then all are idle
-use Rattle.std.proofs.Common.{◌≡◌, ◌≢◌, ℕ, ◌<◌, ◌⊎◌, Bool, true, false, length, inl, inr, refl, sym, ◌∙◌, ap, subst, arith}
-use Rattle.std.specs.Prelude.{Option, Some, None, is_some, ⊤, if◌then◌else◌, slice_get}
-use Rattle.std.proofs.lemmas.Option.{same_Some, slice_get_within}
+use Rattle.std.proofs.Common.{◌≡◌, ◌≢◌, ℕ, ◌<◌, ◌⊎◌, Bool, true, false, length, inl, inr, refl, sym, ◌∙◌, ap, subst, arith, Option, Some, None, is_some}
+use Rattle.std.proofs.Common.{if◌then◌else◌, slice_get}
+use Rattle.{std.{specs.Prelude.⊤, proofs.lemmas.Option.{same_Some, slice_get_within}}, turns.specs.{Attempt.{act, begin_with, turn_in}, Bounds.IsAside}}
+use Rattle.turns.{specs.{Runs.is_finished, World.{ActorOf, Idle, Does}, declared.phase.Phase.TheVariants.Operates}, proofs.{Lists.one_or_two, Moving.rest_bare}}
+use Rattle.{xbar_plan.specs.{Tables.Tables, Lawful.IsLawful}, xbar_jobs.specs.{Attempt.Attempt, Jobs.first_conn, Office.office}}
+use Rattle.xbar_core.{specs.Ends.{EachMakes, EndsIfPast, GivesBack, IsPast, RunsToEnd, Settles}, proofs.BegunJobs.given_back_begins}
+use Rattle.xbar_core.proofs.{Ending.{IsIdleAt, stays_idle, steps_idle}, LawfulEnds.{aside_idle, past_idle}, Stages.{IsStage, each_does, each_keeps, each_made}}
+use Rattle.{xbar_core.proofs.Stages.{one_settles, past_or_not}, xbar_moves.specs.Exchange.{Exchange, IsLawfulExchange, Marker, Work, is_idle, world}}
+use Rattle.xbar_moves.specs.{Holding.IsAt, Moves.{given_at, given_back, given_by, steps}, Settling.{ended, ended_past_turn, for_each, most_steps_alone}}
+use Rattle.xbar_moves.{specs.Settling.settled, proofs.{Backing.{Answers, answers, back_rests, gives}, GivenBack.others_stay}}
+use Rattle.xbar_moves.proofs.{Jobs.{at_job_has, at_job_is, given_is, past_turn, work_at}, Keeping.{count_back, count_end, past_turn_keeps, steps_keep}}
+use Rattle.xbar_moves.proofs.{Markers.{marker_there, none_within}, StepCases.{step_count, step_else}, Worlds.{idle_free, lawful_given_back, lawful_stepped}}
 use mathlib.Core.Option.{some}
 use lib.ListN.{get_elem?}
-use Rattle.turns.specs.Attempt.{act, begin_with, turn_in}
-use Rattle.turns.specs.Bounds.{IsAside}
-use Rattle.turns.specs.Runs.{is_finished}
-use Rattle.turns.specs.World.{ActorOf, Idle, Does}
-use Rattle.turns.specs.declared.phase.Phase.TheVariants.{Operates}
-use Rattle.turns.proofs.Lists.{one_or_two}
-use Rattle.turns.proofs.Moving.{rest_bare}
-use Rattle.xbar_plan.specs.Tables.{Tables}
-use Rattle.xbar_plan.specs.Lawful.{IsLawful}
-use Rattle.xbar_jobs.specs.Attempt.{Attempt}
-use Rattle.xbar_jobs.specs.Jobs.{first_conn}
-use Rattle.xbar_jobs.specs.Office.{office}
-use Rattle.xbar_core.specs.Ends.{EachMakes, EndsIfPast, GivesBack, IsPast, RunsToEnd, Settles}
-use Rattle.xbar_moves.specs.Exchange.{Exchange, IsLawfulExchange, Marker, Work, is_idle, world}
-use Rattle.xbar_moves.specs.Holding.{IsAt}
-use Rattle.xbar_moves.specs.Moves.{given_at, given_back, given_by, steps}
-use Rattle.xbar_moves.specs.Settling.{ended, ended_past_turn, for_each, most_steps_alone, settled}
-use Rattle.xbar_moves.specs.declared.given.Given.{Given}
 use Rattle.xbar_moves.specs.declared.given.Given.TheVariants as given
-use Rattle.xbar_moves.proofs.Backing.{Answers, answers, back_rests, gives}
-use Rattle.xbar_core.proofs.BegunJobs.{given_back_begins}
-use Rattle.xbar_core.proofs.Ending.{IsIdleAt, stays_idle, steps_idle}
-use Rattle.xbar_moves.proofs.GivenBack.{others_stay}
-use Rattle.xbar_moves.proofs.Jobs.{at_job_has, at_job_is, given_is, past_turn, work_at}
-use Rattle.xbar_moves.proofs.Keeping.{count_back, count_end, past_turn_keeps, steps_keep}
-use Rattle.xbar_core.proofs.LawfulEnds.{aside_idle, past_idle}
-use Rattle.xbar_moves.proofs.Markers.{marker_there, none_within}
-use Rattle.xbar_core.proofs.Stages.{IsStage, each_does, each_keeps, each_made, one_settles, past_or_not}
-use Rattle.xbar_moves.proofs.StepCases.{step_count, step_else}
-use Rattle.xbar_moves.proofs.Worlds.{idle_free, lawful_given_back, lawful_stepped}
+use Rattle.xbar_moves.specs.declared.given.Given.{Given}
 
 -- all markers have this
 abbrev AllAre : (Work → Type 0) → Exchange → Type 0
@@ -49,7 +30,8 @@ idle_not_past work idle past = let told = subst (Answers work) past (answers wor
 -- an idle marker is out of the way of the others
 idle_aside : (plan : Tables) (work : Work) → is_idle work ≡ true → IsAside (office plan) work
 idle_aside plan Idle idle = tt
-idle_aside plan (Does n a) idle = let bare = rest_bare (office plan) a.phase a.job a.readings a.held a.reply a.effects (idle_free plan (Does n a) idle) in (bare.1, bare.2)
+idle_aside plan (Does n a) idle = let bare = rest_bare (office plan) a.phase a.job a.readings a.held a.reply a.effects (idle_free plan (Does n a) idle) in
+    (bare.1, bare.2)
 
 -- an attempt that marker k is at, past its turn
 record IsPastAt (e : Exchange) (k : ℕ) : Type 0 where
@@ -81,20 +63,25 @@ module _ (e : Exchange) (k : ℕ) where
 
     -- any other is left alone
     past_alone : ¬ IsPast e k → ended_past_turn plan k e ≡ e
-    past_alone not = at_job_has (λ x. x ≡ e) e (λ m n a. ended_if (is_some (turn_in a.phase))) e k refl (λ n a at. by n a at (is_some (turn_in a.phase)) (is_finished (act a)) refl refl) where
-      by : (n : ℕ) (a : Attempt) (at : IsAt e k n a) (past rest : Bool) → is_some (turn_in a.phase) ≡ past → is_finished (act a) ≡ rest → ended_if past ≡ e
-      by n a at false rest is goes = refl
-      by n a at true true is rests = steps_idle plan k most_steps_alone e at.marker at.there (ap is_idle at.work ∙ rests)
-      by n a at true false is goes =
-          absurd (not (at_job_is given.Idle (λ m i b. given_by (Does i b)) e k n a at
-          ∙ (λ i. if goes i then given.Idle else (if is i then given.PastTurn else given.Given))))
+    past_alone not =
+        at_job_has (λ x. x ≡ e) e (λ m n a. ended_if (is_some (turn_in a.phase))) e k refl
+        (λ n a at. by n a at (is_some (turn_in a.phase)) (is_finished (act a)) refl refl) where
+          by : (n : ℕ) (a : Attempt) (at : IsAt e k n a) (past rest : Bool) → is_some (turn_in a.phase) ≡ past → is_finished (act a) ≡ rest → ended_if past ≡ e
+          by n a at false rest is goes = refl
+          by n a at true true is rests = steps_idle plan k most_steps_alone e at.marker at.there (ap is_idle at.work ∙ rests)
+          by n a at true false is goes =
+              absurd (not (at_job_is given.Idle (λ m i b. given_by (Does i b)) e k n a at
+              ∙ (λ i. if goes i then given.Idle else (if is i then given.PastTurn else given.Given))))
 
 -- a marker that is idle after steps of it has run to its end
-ran : (plan : Tables) (k count : ℕ) (before after : Exchange) → after ≡ steps plan k count before → IsIdleAt (steps plan k count before) k → RunsToEnd plan k before after
+ran : (plan : Tables) (k count : ℕ) (before after : Exchange) → after ≡ steps plan k count before → IsIdleAt (steps plan k count before) k
+    → RunsToEnd plan k before after
 ran plan k count before after is end = record {
   count = count;
   steps_are = is;
-  idle = λ m there. ap (λ (o : Marker). is_idle o.work) (same_Some m end.marker (sym there ∙ ap (λ (x : Exchange). slice_get x.markers k) is ∙ end.there)) ∙ end.idle;
+  idle =
+      λ m there. ap (λ (o : Marker). is_idle o.work) (same_Some m end.marker (sym there ∙ ap (λ (x : Exchange). slice_get x.markers k) is ∙ end.there))
+      ∙ end.idle;
 }
 
 module _ (plan : Tables) (laws : IsLawful plan) where
@@ -103,7 +90,8 @@ module _ (plan : Tables) (laws : IsLawful plan) where
   ends_past k e lawful = record {
     past = λ past.
         let found = past_at e k past in
-        ran plan k most_steps_alone e (ended_past_turn plan k e) (past_ended e k plan past) (past_idle plan laws e lawful k found.number found.attempt found.at found.turn found.past);
+        ran plan k most_steps_alone e (ended_past_turn plan k e) (past_ended e k plan past)
+        (past_idle plan laws e lawful k found.number found.attempt found.at found.turn found.past);
     other = past_alone e k plan;
   }
 
@@ -121,7 +109,8 @@ module _ (plan : Tables) (laws : IsLawful plan) where
     Any work = ⊤
 
     -- with one marker made anew, all have what the others had and it has
-    all_kept : (Done : Work → Type 0) (k : ℕ) (before after : Exchange) → ((j : ℕ) → j ≢ k → slice_get after.markers j ≡ slice_get before.markers j) → ((m : Marker) → slice_get after.markers k ≡ Some m → Done m.work) → AllAre Done before → AllAre Done after
+    all_kept : (Done : Work → Type 0) (k : ℕ) (before after : Exchange) → ((j : ℕ) → j ≢ k → slice_get after.markers j ≡ slice_get before.markers j)
+        → ((m : Marker) → slice_get after.markers k ≡ Some m → Done m.work) → AllAre Done before → AllAre Done after
     all_kept Done k before after others does all j m there = by (one_or_two j k) where
       by : (j ≡ k) ⊎ (j ≢ k) → Done m.work
       by (inl one) = does m (subst (λ (i : ℕ). slice_get after.markers i ≡ Some m) one there)
@@ -140,13 +129,19 @@ module _ (plan : Tables) (laws : IsLawful plan) where
     ]
 
     steps_lawful : (k : ℕ) (before after : Exchange) → AreSteps k before after → IsLawfulExchange plan before → IsLawfulExchange plan after
-    steps_lawful k before after made lawful = subst (IsLawfulExchange plan) (sym made.is) (steps_keep plan (IsLawfulExchange plan) k (λ x is. lawful_stepped plan x k laws is) made.count before lawful)
+    steps_lawful k before after made lawful =
+        subst (IsLawfulExchange plan) (sym made.is) (steps_keep plan (IsLawfulExchange plan) k (λ x is. lawful_stepped plan x k laws is) made.count before
+        lawful)
 
     steps_size : (k : ℕ) (before after : Exchange) → AreSteps k before after → length after.markers ≡ length before.markers
-    steps_size k before after made = ap (λ (x : Exchange). length x.markers) made.is ∙ steps_keep plan (λ x. length x.markers ≡ length before.markers) k (λ x is. step_count plan x k ∙ is) made.count before refl
+    steps_size k before after made =
+        ap (λ (x : Exchange). length x.markers) made.is
+        ∙ steps_keep plan (λ x. length x.markers ≡ length before.markers) k (λ x is. step_count plan x k ∙ is) made.count before refl
 
     steps_else : (k j : ℕ) (before after : Exchange) → AreSteps k before after → j ≢ k → slice_get after.markers j ≡ slice_get before.markers j
-    steps_else k j before after made two = ap (λ (x : Exchange). slice_get x.markers j) made.is ∙ steps_keep plan (λ x. slice_get x.markers j ≡ slice_get before.markers j) k (λ x is. step_else plan x k j two ∙ is) made.count before refl
+    steps_else k j before after made two =
+        ap (λ (x : Exchange). slice_get x.markers j) made.is
+        ∙ steps_keep plan (λ x. slice_get x.markers j ≡ slice_get before.markers j) k (λ x is. step_else plan x k j two ∙ is) made.count before refl
 
     -- first none is past its turn any more
     first_done : (k : ℕ) (before after : Exchange) (m : Marker) → EndsIfPast plan k before after → slice_get after.markers k ≡ Some m → NotPast m.work
@@ -193,7 +188,8 @@ module _ (plan : Tables) (laws : IsLawful plan) where
     back_else : (k j : ℕ) (before after : Exchange) → GivesBack plan k before after → j ≢ k → slice_get after.markers j ≡ slice_get before.markers j
     back_else k j before after gives two = ap (λ (x : Exchange). slice_get x.markers j) gives ∙ others_stay plan before k j two
 
-    second_does : (k : ℕ) (before after : Exchange) (m : Marker) → GivesBack plan k before after → IsOffice NotPast before → slice_get after.markers k ≡ Some m → Back m.work
+    second_does : (k : ℕ) (before after : Exchange) (m : Marker) → GivesBack plan k before after → IsOffice NotPast before → slice_get after.markers k ≡ Some m
+        → Back m.work
     second_does k before after m gives has there = second_done k before m has.all (ap (λ (x : Exchange). slice_get x.markers k) (sym gives) ∙ there)
 
     second : IsStage (GivesBack plan) (IsOffice NotPast) Back
@@ -201,7 +197,9 @@ module _ (plan : Tables) (laws : IsLawful plan) where
       keeps = λ k before after gives has. record {
         lawful = subst (IsLawfulExchange plan) (sym gives) (lawful_given_back plan before k laws has.lawful);
         size = ap (λ (x : Exchange). length x.markers) gives ∙ count_back plan k before ∙ has.size;
-        all = all_kept NotPast k before after (λ j two. back_else k j before after gives two) (λ m there. (second_does k before after m gives has there).1) has.all;
+        all =
+            all_kept NotPast k before after (λ j two. back_else k j before after gives two) (λ m there. (second_does k before after m gives has there).1)
+            has.all;
       };
       others = λ k j before after gives two. back_else k j before after gives two;
       does = second_does;
@@ -244,7 +242,9 @@ module _ (plan : Tables) (laws : IsLawful plan) where
           record {
             lawful = steps_lawful k before after made has.lawful;
             size = steps_size k before after made ∙ has.size;
-            all = all_kept (IsAside (office plan)) k before after (λ j two. steps_else k j before after made two) (λ m there. idle_aside plan m.work (runs.idle m there)) has.all;
+            all =
+                all_kept (IsAside (office plan)) k before after (λ j two. steps_else k j before after made two)
+                (λ m there. idle_aside plan m.work (runs.idle m there)) has.all;
           };
       others = λ k j before after runs two. steps_else k j before after (record { count = runs.count; is = runs.steps_are }) two;
       does = λ k before after m runs has there. runs.idle m there;
@@ -254,7 +254,8 @@ module _ (plan : Tables) (laws : IsLawful plan) where
     third_keeps k e has = third.keeps k e (ended plan k e) (third_runs k e has) has
 
   -- once all have made a stage, they have what each has of it
-  all_done : (Makes : ℕ → Exchange → Exchange → Type 0) (Has Done : Work → Type 0) (n : ℕ) (before after : Exchange) → IsStage Makes (IsOffice n Has) Done → EachMakes Makes n before after → IsOffice n Has before → IsOffice n Done after
+  all_done : (Makes : ℕ → Exchange → Exchange → Type 0) (Has Done : Work → Type 0) (n : ℕ) (before after : Exchange) → IsStage Makes (IsOffice n Has) Done
+      → EachMakes Makes n before after → IsOffice n Has before → IsOffice n Done after
   all_done Makes Has Done n before after stage made has =
       let kept = each_keeps Makes (IsOffice n Has) Done stage n before after made has in
       record {

@@ -1,17 +1,11 @@
 -- offices that markers make one of another, in the order of their numbers
-use Rattle.std.proofs.Common.{◌≡◌, ◌≢◌, ℕ, zero, suc, ◌+◌, ◌<◌, ◌⊎◌, Bool, true, false, length, inl, inr, refl, sym, ◌∙◌, ap, subst, arith}
-use Rattle.std.proofs.Math.Nat.{add_comm}
-use Rattle.std.specs.Prelude.{Some, slice_get}
-use Rattle.turns.proofs.Lists.{one_or_two}
-use Rattle.xbar_plan.specs.Tables.{Tables}
-use Rattle.xbar_core.specs.Ends.{EachMakes, EndsIfPast, GivesBack, IsPast, RunsToEnd, Settles}
-use Rattle.xbar_moves.specs.Exchange.{Exchange, Marker, Work, is_idle}
-use Rattle.xbar_moves.specs.Moves.{given_at, after_step, steps}
-use Rattle.xbar_moves.specs.Settling.{for_each}
-use Rattle.xbar_moves.specs.declared.given.Given.{Given}
+use Rattle.std.proofs.Common.{◌≡◌, ◌≢◌, ℕ, zero, suc, ◌+◌, ◌<◌, ◌⊎◌, Bool, true, false, length, inl, inr, refl, sym, ◌∙◌, ap, subst, arith, add_comm, Some}
+use Rattle.std.proofs.Common.{slice_get}
+use Rattle.{turns.proofs.Lists.one_or_two, xbar_plan.specs.Tables.Tables, xbar_core.specs.Ends.{EachMakes, EndsIfPast, GivesBack, IsPast, RunsToEnd, Settles}}
+use Rattle.xbar_moves.specs.{Exchange.{Exchange, Marker, Work, is_idle}, Moves.{given_at, after_step, steps}, Settling.for_each}
+use Rattle.xbar_moves.proofs.{Keeping.for_each_keeps, StepCases.step_cases}
 use Rattle.xbar_moves.specs.declared.given.Given.TheVariants as given
-use Rattle.xbar_moves.proofs.Keeping.{for_each_keeps}
-use Rattle.xbar_moves.proofs.StepCases.{step_cases}
+use Rattle.xbar_moves.specs.declared.given.Given.{Given}
 
 -- what a marker makes keeps this, leaves the other markers as they are, and has that of it
 pub record IsStage (Makes : ℕ → Exchange → Exchange → Type 0) (Has : Exchange → Type 0) (Done : Work → Type 0) : Type 0 where
@@ -21,17 +15,20 @@ pub record IsStage (Makes : ℕ → Exchange → Exchange → Type 0) (Has : Exc
 
 module _ (Makes : ℕ → Exchange → Exchange → Type 0) where
   -- if each marker leads to only one office, so do they all
-  each_one : ((k : ℕ) (before one other : Exchange) → Makes k before one → Makes k before other → one ≡ other) → (count : ℕ) (before one other : Exchange) → EachMakes Makes count before one → EachMakes Makes count before other → one ≡ other
+  each_one : ((k : ℕ) (before one other : Exchange) → Makes k before one → Makes k before other → one ≡ other) → (count : ℕ) (before one other : Exchange)
+      → EachMakes Makes count before one → EachMakes Makes count before other → one ≡ other
   each_one alone zero before one other this that = this ∙ sym that
   each_one alone (suc k) before one other this that =
       let same : this.0 ≡ that.0 = each_one alone k before this.0 that.0 this.1 that.1 in
       alone k that.0 one other (subst (λ (x : Exchange). Makes k x one) same this.2) that.2
 
   -- changes that each marker makes are made by all
-  pub each_made : (change : ℕ → Exchange → Exchange) (Has : Exchange → Type 0) → ((k : ℕ) (e : Exchange) → Has e → Has (change k e)) → ((k : ℕ) (e : Exchange) → Has e → Makes k e (change k e)) → (count : ℕ) (e : Exchange) → Has e → EachMakes Makes count e (for_each change count e)
+  pub each_made : (change : ℕ → Exchange → Exchange) (Has : Exchange → Type 0) → ((k : ℕ) (e : Exchange) → Has e → Has (change k e))
+      → ((k : ℕ) (e : Exchange) → Has e → Makes k e (change k e)) → (count : ℕ) (e : Exchange) → Has e → EachMakes Makes count e (for_each change count e)
   unfolding for_each
   each_made change Has keeps makes zero e has = refl
-  each_made change Has keeps makes (suc k) e has = (for_each change k e, each_made change Has keeps makes k e has, makes k (for_each change k e) (for_each_keeps Has change keeps k e has))
+  each_made change Has keeps makes (suc k) e has =
+      (for_each change k e, each_made change Has keeps makes k e has, makes k (for_each change k e) (for_each_keeps Has change keeps k e has))
 
   module _ (Has : Exchange → Type 0) (Done : Work → Type 0) (stage : IsStage Makes Has Done) where
     pub each_keeps : (count : ℕ) (before after : Exchange) → EachMakes Makes count before after → Has before → Has after
@@ -39,11 +36,13 @@ module _ (Makes : ℕ → Exchange → Exchange → Type 0) where
     each_keeps (suc k) before after made has = stage.keeps k made.0 after made.2 (each_keeps k before made.0 made.1 has)
 
     -- once `count` markers have made the stage, these have this
-    pub each_does : (count : ℕ) (before after : Exchange) → EachMakes Makes count before after → Has before → (j : ℕ) (m : Marker) → j < count → slice_get after.markers j ≡ Some m → Done m.work
+    pub each_does : (count : ℕ) (before after : Exchange) → EachMakes Makes count before after → Has before → (j : ℕ) (m : Marker) → j < count
+        → slice_get after.markers j ≡ Some m → Done m.work
     each_does zero before after made has j m below there = absurd (omega arith)
     each_does (suc k) before after made has j m below there = by (one_or_two j k) (λ less at. each_does k before made.0 made.1 has j m less at) where
       by : (j ≡ k) ⊎ (j ≢ k) → (j < k → slice_get made.0.markers j ≡ Some m → Done m.work) → Done m.work
-      by (inl one) earlier = stage.does k made.0 after m made.2 (each_keeps k before made.0 made.1 has) (subst (λ (i : ℕ). slice_get after.markers i ≡ Some m) one there)
+      by (inl one) earlier =
+          stage.does k made.0 after m made.2 (each_keeps k before made.0 made.1 has) (subst (λ (i : ℕ). slice_get after.markers i ≡ Some m) one there)
       by (inr two) earlier = earlier (omega (arith, two, below)) (sym (stage.others k j made.0 after made.2 two) ∙ there)
 
 -- whether a marker is past its turn
@@ -99,5 +98,7 @@ module _ (plan : Tables) where
   one_settles before one other this that =
       let count = length before.markers in
       let ended : this.ended ≡ that.ended = each_one (EndsIfPast plan) one_if_past count before this.ended that.ended this.ends that.ends in
-      let given : this.given ≡ that.given = each_one (GivesBack plan) (λ k x y z is also. is ∙ sym also) count that.ended this.given that.given (subst (λ (x : Exchange). EachMakes (GivesBack plan) count x this.given) ended this.gives) that.gives in
+      let given : this.given ≡ that.given =
+      each_one (GivesBack plan) (λ k x y z is also. is ∙ sym also) count that.ended this.given that.given
+      (subst (λ (x : Exchange). EachMakes (GivesBack plan) count x this.given) ended this.gives) that.gives in
       each_one (RunsToEnd plan) one_run count that.given one other (subst (λ (x : Exchange). EachMakes (RunsToEnd plan) count x one) given this.runs) that.runs

@@ -1,39 +1,29 @@
 -- what comes of a step of which something is left, and of the last one of a job past its turn
-use Rattle.std.proofs.Common.{◌≡◌, ℕ, false, List, [], ◌∷◌, refl, ◌∙◌, ap, subst}
-use Rattle.std.specs.Prelude.{Some}
-use Rattle.turns.specs.Attempt.{act, change}
-use Rattle.turns.specs.Law.{FitsIn}
-use Rattle.turns.specs.Runs.{is_finished}
-use Rattle.turns.specs.declared.phase.Phase.TheVariants.{Operates}
-use Rattle.xbar_equip.specs.declared.conn.Conn.{Conn}
-use Rattle.xbar_plan.specs.Tables.{Tables}
-use Rattle.xbar_office.specs.declared.reply.Record.{Record}
-use Rattle.xbar_office.specs.declared.reply.Reply.{Reply}
-use Rattle.xbar_jobs.specs.Attempt.{Attempt}
-use Rattle.xbar_jobs.specs.Office.{office}
-use Rattle.xbar_moves.specs.AtWork.{answer_to_step}
-use Rattle.xbar_moves.specs.Exchange.{Exchange, IsLawfulExchange, world}
-use Rattle.xbar_moves.specs.Holding.{IsAt}
-use Rattle.xbar_moves.specs.Moves.{event_at_step, event_of}
-use Rattle.xbar_moves.specs.declared.event.Event.{Event}
+use Rattle.std.proofs.Common.{◌≡◌, ℕ, false, List, [], ◌∷◌, refl, ◌∙◌, ap, subst, Some}
+use Rattle.turns.specs.{Attempt.{act, change}, Law.FitsIn, Runs.is_finished, declared.phase.Phase.TheVariants.Operates}
+use Rattle.{xbar_equip.specs.declared.conn.Conn.Conn, xbar_plan.specs.Tables.Tables, xbar_office.specs.declared.reply.{Record.Record, Reply.Reply}}
+use Rattle.{xbar_jobs.specs.{Attempt.Attempt, Office.office}, xbar_moves.specs.{AtWork.answer_to_step, Exchange.{Exchange, IsLawfulExchange, world}}}
+use Rattle.xbar_moves.{specs.{Holding.IsAt, Moves.{event_at_step, event_of}, declared.event.Event.Event}, proofs.Actors.actor_at}
 use Rattle.xbar_moves.specs.declared.event.Event.TheVariants as event
-use Rattle.xbar_moves.proofs.Actors.{actor_at}
 
 module _ (plan : Tables) where
   -- the event of an attempt's step, by the answer
   abbrev pub come_of : ℕ → ℕ → List ℕ → Attempt → Event
   come_of k number words a = event_of k number a (change (office plan) a (answer_to_step k words a)) (answer_to_step k words a)
 
-  pub event_is : (e : Exchange) (k number : ℕ) (a : Attempt) → IsAt e k number a → is_finished (act a) ≡ false → event_at_step plan k e ≡ come_of k number e.words a
+  pub event_is : (e : Exchange) (k number : ℕ) (a : Attempt) → IsAt e k number a → is_finished (act a) ≡ false
+      → event_at_step plan k e ≡ come_of k number e.words a
   event_is e k number a at goes = rw (at.there, at.work, goes) refl
 
   -- the free of the last connector past the turn finishes the job
   last_comes : (k number turn : ℕ) (words : List ℕ) (a : Attempt) (conn : Conn) (reply : Reply)
-      → come_of k number words (record a { phase = Operates turn; effects = []; held = conn ∷ []; reply = Some reply }) ≡ event.Finished (record { turn = turn; marker = k; job_no = number; job = a.job; reply = reply })
+      → come_of k number words (record a { phase = Operates turn; effects = []; held = conn ∷ []; reply = Some reply })
+      ≡ event.Finished (record { turn = turn; marker = k; job_no = number; job = a.job; reply = reply })
   last_comes k number turn words a conn reply = refl
 
   -- so it does wherever the job has its record
-  pub last_finishes : (e : Exchange) (k number turn : ℕ) (a : Attempt) (conn : Conn) → IsLawfulExchange plan e → IsAt e k number a → a.phase ≡ Operates turn → a.effects ≡ [] → a.held ≡ conn ∷ [] → (r : Record) × (event_at_step plan k e ≡ event.Finished r)
+  pub last_finishes : (e : Exchange) (k number turn : ℕ) (a : Attempt) (conn : Conn) → IsLawfulExchange plan e → IsAt e k number a → a.phase ≡ Operates turn
+      → a.effects ≡ [] → a.held ≡ conn ∷ [] → (r : Record) × (event_at_step plan k e ≡ event.Finished r)
   last_finishes e k number turn a conn lawful at past none last =
       let fits = subst (FitsIn (office plan) (world plan e) k number a) past (lawful.sound k number a (actor_at e k number a at)).fits in
       let reply = fits.recorded.recorded.reply in

@@ -1,15 +1,12 @@
 -- markers that have a turn still to come
-use Rattle.std.proofs.Common.{◌≡◌, ℕ, zero, suc, ◌+◌, ◌≤◌, Bool, true, false, List, [], ◌∷◌, length, ap, arith}
-use Rattle.std.specs.Prelude.{Some, None, is_some, if◌then◌else◌, slice_get, slice_set}
-use Rattle.std.proofs.lemmas.Option.{none-some, same_Some}
-use Rattle.turns.specs.Attempt.{turn_in}
-use Rattle.turns.specs.World.{Idle, Does}
-use Rattle.xbar_jobs.specs.Attempt.{Phase}
-use Rattle.xbar_moves.specs.Exchange.{Marker, Work}
-use Rattle.xbar_core.specs.Standing.{waiting, waits, waits_in}
+use Rattle.std.proofs.Common.{◌≡◌, ℕ, zero, suc, ◌+◌, ◌≤◌, Bool, true, false, List, [], ◌∷◌, length, ap, arith, Some, is_some, if◌then◌else◌, slice_get}
+use Rattle.std.proofs.Common.{slice_set}
+use Rattle.{std.proofs.lemmas.Option.{none-some, same_Some}, turns.specs.{Attempt.turn_in, World.{Idle, Does}}, xbar_jobs.specs.Attempt.Phase}
+use Rattle.{xbar_moves.specs.Exchange.{Marker, Work}, xbar_core.specs.Standing.{waiting, waits, waits_in}}
 
 -- with one marker set, as many more or fewer wait for their turn as do by it
-pub waiting_set : (markers : List Marker) (k : ℕ) (m was : Marker) → slice_get markers k ≡ Some was → waiting (slice_set markers k m) + waits was.work ≡ waiting markers + waits m.work
+pub waiting_set : (markers : List Marker) (k : ℕ) (m was : Marker) → slice_get markers k ≡ Some was
+    → waiting (slice_set markers k m) + waits was.work ≡ waiting markers + waits m.work
 unfolding waiting
 waiting_set [] k m was e = absurd (none-some was e)
 waiting_set (n ∷ markers) zero m was e = let same = ap (λ (o : Marker). waits o.work) (same_Some n was e) in omega (arith, same)

@@ -5,7 +5,7 @@ ghost use Rattle.turns.specs.World.{Idle};
 ghost use Rattle.xbar_equip.specs.Word.{word_count};
 ghost use Rattle.xbar_moves.specs.AtWork.{IsBackingAt, withdraws_or_frees_at, is_turned, next_step_at};
 ghost use Rattle.xbar_moves.specs.Exchange.{IsLawfulExchange, Marker as TheMarker, is_idle as is_idle_work, fresh_exchange};
-ghost use Rattle.xbar_moves.specs.Moves.{assigned, begun_anew, event_at_step, frees_left, given_at, given_back, refusal, after_step, steps};
+ghost use Rattle.xbar_moves.specs.Moves.{assigned, restarted_at, event_at_step, frees_left, given_at, given_back, refusal, after_step, steps};
 
 use crate::marker::Marker;
 use std::alloc::{AllocError, Global};
@@ -237,13 +237,13 @@ impl<'p> Exchange<'p> {
     pub fn restart(&mut self, marker: u32)
         requires { marker < length self.old.exchange.markers }
         ensures { self.new
-            ≡ record self.old { exchange = begun_anew self.old.plan marker self.old.exchange } }
+            ≡ record self.old { exchange = restarted_at self.old.plan marker self.old.exchange } }
     {
         self.markers[marker as usize].restart();
     }
 
     /// Has a marker that was restarted withdraw its request, and free all that it holds.
-    fn give_up(&mut self, marker: u32)
+    fn free_all(&mut self, marker: u32)
         requires within { marker < length self.old.exchange.markers }
         requires backs { IsBackingAt (slice_get self.old.exchange.markers marker) }
         ensures { self.new ≡ record self.old {
@@ -266,7 +266,7 @@ impl<'p> Exchange<'p> {
         let given = self.given(marker);
         if let Given::Given = given {
             self.restart(marker);
-            self.give_up(marker);
+            self.free_all(marker);
         }
         given
     }

@@ -8,7 +8,7 @@ ghost use Rattle.xbar_jobs.specs.Attempt.{Attempt, next_step};
 ghost use Rattle.xbar_jobs.specs.Jobs.{first_conn};
 ghost use Rattle.xbar_moves.specs.AtWork.{withdraws_or_frees_at, is_turned, next_step_at};
 ghost use Rattle.xbar_moves.specs.Exchange.{Marker as TheMarker, Work as TheWork, is_idle as is_idle_at};
-ghost use Rattle.xbar_moves.specs.Moves.{IsAnswered, event_by, event_of, given_by, refusal_of, after_step, steps, work_anew};
+ghost use Rattle.xbar_moves.specs.Moves.{IsAnswered, event_by, event_of, given_by, refusal_of, after_step, steps, restarted_work};
 ghost use Rattle.xbar_core.specs.Standing.{StandsAt, waits, work_of};
 
 use crate::work::Work;
@@ -122,7 +122,7 @@ impl Marker {
     /// the turn nothing changes.
     pub fn restart(&mut self)
         ensures { (plan : Tables) →
-            self.new ≡ record self.old { work = work_anew plan self.old.work } }
+            self.new ≡ record self.old { work = restarted_work plan self.old.work } }
     {
         if let Some(work) = &mut self.work {
             work.restart();

@@ -94,7 +94,7 @@ impl Work {
     pub fn is_done(&self) -> bool
         ensures { result ≡ is_finished (act self.now.program.attempt) }
     {
-        self.program.next() == Step::Finished
+        self.program.is_done()
     }
 
     /// Whether the job has taken its turn.
@@ -199,8 +199,7 @@ impl Work {
         ensures room { vec_capacity records.old ≤ vec_capacity records.new }
         ensures answer { result ≡ answer_to_step marker words.old self.old.program.attempt }
     {
-        let answer = self.program.next().make(marker, words);
-        self.program.take(plan, answer);
+        let answer = self.program.step(plan, marker, words);
         self.enter(marker, answer, records);
         answer
     }

@@ -1,9 +1,6 @@
-use Rattle.std.proofs.Common.{◌≡◌, ℕ, zero, suc, ◌+◌, ◌*◌, ◌/◌, ◌%◌, ◌^◌, ◌<◌, ◌≤◌, List, [], ◌∷◌, ◌++◌, length, take, get_or, refl, sym, ◌∙◌, ap, arith, add-one, lit≤}
-use Rattle.std.specs.Prelude.{◌&&◌, true, IsTrue}
-use Rattle.std.specs.Char.{is_ascii_digit}
-use Rattle.std.proofs.lemmas.List.{take_more}
-use Rattle.std.proofs.lemmas.List.Folds.{list_all_more}
-use Rattle.std.proofs.Math.Nat.{div-div-eq-div-mul, pow-suc, pow-le-pow_right}
+use Rattle.std.proofs.Common.{◌≡◌, ℕ, zero, suc, ◌+◌, ◌*◌, ◌/◌, ◌%◌, ◌^◌, ◌<◌, ◌≤◌, List, [], ◌∷◌, ◌++◌, length, take, get_or, refl, sym, ◌∙◌, ap, arith}
+use Rattle.std.proofs.Common.{add-one, lit≤, ◌&&◌, true, IsTrue, pow-suc}
+use Rattle.std.{specs.Char.is_ascii_digit, proofs.{lemmas.List.{take_more, Folds.list_all_more}, Math.Nat.{div-div-eq-div-mul, pow-le-pow_right}}}
 use Rattle.xbar_equip.specs.Digits.{digit, digits, are_digits}
 
 -- one more digit at the end shifts the others up by a place
@@ -34,11 +31,13 @@ pub nine_digits_fit : (k n : ℕ) → n < 10 ^ k → k ≤ 9 → n < 10 ^ 9
 nine_digits_fit k n below few = omega (arith, pow-le-pow_right {n = 10} (lit≤ tt) few)
 
 -- one more digit: the loop's step
-pub written_more : (text : List ℕ) (k n d : ℕ) → k < length text → d < 10 → take k text ≡ digits k n → get_or text k 0 ≡ digit d → take (k + 1) text ≡ digits (k + 1) (10 * n + d)
+pub written_more : (text : List ℕ) (k n d : ℕ) → k < length text → d < 10 → take k text ≡ digits k n → get_or text k 0 ≡ digit d
+    → take (k + 1) text ≡ digits (k + 1) (10 * n + d)
 written_more text k n d within below before here =
     take_more text k 0 within ∙ ap (λ front. front ++ get_or text k 0 ∷ []) before ∙ ap (λ x. digits k n ++ x ∷ []) here
     ∙ rw add-one (sym (digits-snoc k n d below))
 
 -- one more byte: whether all so far are digits
-pub tested_more : (text : List ℕ) (k : ℕ) → k < length text → are_digits (take k text) ≡ true → IsTrue (is_ascii_digit (get_or text k 0)) → are_digits (take (k + 1) text) ≡ true
+pub tested_more : (text : List ℕ) (k : ℕ) → k < length text → are_digits (take k text) ≡ true → IsTrue (is_ascii_digit (get_or text k 0))
+    → are_digits (take (k + 1) text) ≡ true
 tested_more text k within before here = list_all_more is_ascii_digit text k 0 within ∙ ap (λ b. b && is_ascii_digit (get_or text k 0)) before ∙ here

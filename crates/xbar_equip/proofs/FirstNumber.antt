@@ -1,9 +1,6 @@
-use Rattle.std.proofs.Common.{◌≡◌, ℕ, zero, suc, ◌+◌, ◌-◌, ◌<◌, ◌≤◌, ◌⊎◌, Bool, true, false, inl, inr, refl, sym, ◌∙◌, ap, arith}
-use Rattle.std.specs.Prelude.{Option, Some, None, MatchOption, unwrap_or, if◌then◌else◌}
-use Rattle.std.specs.Option.{option_map}
-use Rattle.std.proofs.lemmas.Bool.{cases_lt}
-use mathlib.Core.Bool.{true≢false}
-use Rattle.xbar_equip.specs.First.{first_from, first_below, next_below, IsFirstBelow, IsNextBelow}
+use Rattle.std.proofs.Common.{◌≡◌, ℕ, zero, suc, ◌+◌, ◌-◌, ◌<◌, ◌≤◌, ◌⊎◌, Bool, true, false, inl, inr, refl, sym, ◌∙◌, ap, arith, Option, Some, None}
+use Rattle.std.proofs.Common.{MatchOption, unwrap_or, if◌then◌else◌, option_map, true≢false}
+use Rattle.{std.proofs.lemmas.Bool.cases_lt, xbar_equip.specs.First.{first_from, first_below, next_below, IsFirstBelow, IsNextBelow}}
 
 -- the first number from k on, among `count`, that passes; or none of them passes
 pub record IsFirst (test : ℕ → Bool) (k count r : ℕ) : Type 0 where
@@ -42,7 +39,8 @@ later_found test k count (Some r) here is = record {
 }
 
 -- the search from k on, by the result of the test at k
-here_found : (test : ℕ → Bool) (k count : ℕ) (b : Bool) → test k ≡ b → Finds test (suc k) count (first_from test (suc k) count) → Finds test k (suc count) (if b then Some k else first_from test (suc k) count)
+here_found : (test : ℕ → Bool) (k count : ℕ) (b : Bool) → test k ≡ b → Finds test (suc k) count (first_from test (suc k) count)
+    → Finds test k (suc count) (if b then Some k else first_from test (suc k) count)
 unfolding Finds
 here_found test k count true here rest = record { from = omega arith; below = omega arith; passes = here; earlier = λ j from below. absurd (omega arith) }
 here_found test k count false here rest = later_found test k count (first_from test (suc k) count) here rest
@@ -64,7 +62,9 @@ first_below-law test count = plain test count (first_from test 0 count) (first_f
 
 -- the law of the channel test: the first number that passes, as the channel at that position of
 -- the order
-pub in_turn-law : (test : ℕ → Bool) (turn : ℕ → ℕ) (found : Option ℕ) → IsFirstBelow test 10 found → MatchOption (option_map turn found) ((j : ℕ) → j < 10 → test j ≡ false) (λ channel. (k : ℕ) × (k < 10) × (channel ≡ turn k) × (test k ≡ true) × ((j : ℕ) → j < k → test j ≡ false))
+pub in_turn-law : (test : ℕ → Bool) (turn : ℕ → ℕ) (found : Option ℕ) → IsFirstBelow test 10 found
+    → MatchOption (option_map turn found) ((j : ℕ) → j < 10 → test j ≡ false)
+    (λ channel. (k : ℕ) × (k < 10) × (channel ≡ turn k) × (test k ≡ true) × ((j : ℕ) → j < k → test j ≡ false))
 in_turn-law test turn None none = none
 in_turn-law test turn (Some k) is = (k, is.0, refl, is.1, is.2)
 
@@ -93,7 +93,8 @@ module _ (test : ℕ → Bool) (count k : ℕ) where
   answer found = unwrap_or (option_map (λ j. k + 1 + j) found) k
 
   -- the first number after k that passes is the next
-  pub next_below-found : (next : ℕ) → k + 1 ≤ next → next < count → test next ≡ true → ((j : ℕ) → k + 1 + j < next → test (k + 1 + j) ≡ false) → next_below test count k ≡ next
+  pub next_below-found : (next : ℕ) → k + 1 ≤ next → next < count → test next ≡ true → ((j : ℕ) → k + 1 + j < next → test (k + 1 + j) ≡ false)
+      → next_below test count k ≡ next
   unfolding after answer
   next_below-found next from below passes earlier =
       let step = next - (k + 1) in

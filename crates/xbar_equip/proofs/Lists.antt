@@ -1,10 +1,7 @@
 -- facts on the items of lists, for the proofs of every crate
-use Rattle.std.proofs.Common.{◌≡◌, ℕ, zero, suc, ◌+◌, ◌<◌, ◌≤◌, ◌⊎◌, Bool, true, false, cond, List, [], ◌∷◌, ◌++◌, length, take, get_or, inl, inr, refl, sym, ◌∙◌, ap, subst}
-use Rattle.std.specs.Prelude.{Some, find, slice_get, flat_map}
-use Rattle.std.specs.List.{list_any, list_all}
-use Rattle.std.proofs.lemmas.List.{take_all}
-use Rattle.std.proofs.lemmas.List.Folds.{list_all_more}
-use Rattle.xbar_equip.specs.Among.{IsIn}
+use Rattle.std.proofs.Common.{◌≡◌, ℕ, zero, suc, ◌+◌, ◌<◌, ◌≤◌, ◌⊎◌, Bool, true, false, cond, List, [], ◌∷◌, ◌++◌, length, take, get_or, inl, inr, refl, sym}
+use Rattle.std.proofs.Common.{◌∙◌, ap, subst, Some, find, slice_get, flat_map, take_all}
+use Rattle.{std.{specs.List.{list_any, list_all}, proofs.lemmas.List.Folds.list_all_more}, xbar_equip.specs.Among.IsIn}
 use Rattle.xbar_equip.proofs.Logic.{both, both_hold, either, either_holds}
 
 -- an item of the first list, or of the second, is one of both together
@@ -53,7 +50,8 @@ all_pass p [] each = refl
 all_pass p (x ∷ xs) each = both_hold (p x) (list_all p xs) (each x (inl refl)) (all_pass p xs (λ y within. each y (inr within)))
 
 -- one more item passes
-pub all_more : {A : Type 0} (p : A → Bool) (xs : List A) (i : ℕ) (x : A) → i < length xs → x ≡ get_or xs i x → p x ≡ true → list_all p (take i xs) ≡ true → list_all p (take (i + 1) xs) ≡ true
+pub all_more : {A : Type 0} (p : A → Bool) (xs : List A) (i : ℕ) (x : A) → i < length xs → x ≡ get_or xs i x → p x ≡ true → list_all p (take i xs) ≡ true
+    → list_all p (take (i + 1) xs) ≡ true
 all_more p xs i x within read passes before =
     list_all_more p xs i x within ∙ both_hold (list_all p (take i xs)) (p (get_or xs i x)) before (ap p (sym read) ∙ passes)
 

@@ -1,6 +1,5 @@
 -- small facts about tests, for the proofs of every crate
-use Rattle.std.proofs.Common.{◌≡◌, ◌⊎◌, Bool, true, false, inl, inr, refl}
-use Rattle.std.specs.Prelude.{◌||◌, not}
+use Rattle.std.proofs.Common.{◌≡◌, ◌⊎◌, Bool, true, false, inl, inr, refl, ◌||◌, not}
 -- if `a && b` holds, both hold (`both`); if both hold, `a && b` does (`both_hold`); if `a || b`
 -- holds, one of them does (`either`)
 pub use Rattle.std.proofs.lemmas.Bool.{and_parts as both, and_from as both_hold, or_cases as either}

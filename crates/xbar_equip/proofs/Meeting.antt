@@ -1,13 +1,7 @@
 use Rattle.std.proofs.Common.{◌≡◌, ℕ, ◌⊎◌, inl, inr, sym, ◌∙◌, ap, subst}
-use Rattle.xbar_equip.specs.Among.{IsIn}
-use Rattle.xbar_equip.specs.Link.{Link}
-use Rattle.xbar_equip.specs.Path.{IsPath, SharesPart, line_link, junctor, trunk_link}
-use Rattle.xbar_equip.specs.Word.{Word, IsWord, word_number, LineSwitch, LineJunctor, TrunkSwitch, TrunkJunctor}
-use Rattle.xbar_equip.specs.Crosspoint.{crosspoints}
-use Rattle.xbar_equip.specs.declared.link.LinkKind.TheVariants.{LineLink, Junctor, TrunkLink}
-use Rattle.xbar_equip.specs.declared.path.Path.{Path}
-use Rattle.xbar_equip.specs.declared.crosspoint.Crosspoint.{Crosspoint}
-use Rattle.xbar_equip.proofs.WordNumbers.{distinct}
+use Rattle.xbar_equip.specs.{Among.IsIn, Link.Link, Path.{IsPath, SharesPart, line_link, junctor, trunk_link}, Word.{Word, IsWord, word_number, LineSwitch}}
+use Rattle.xbar_equip.specs.{Word.{LineJunctor, TrunkSwitch, TrunkJunctor}, Crosspoint.crosspoints, declared.link.LinkKind.TheVariants.{LineLink, Junctor}}
+use Rattle.xbar_equip.{specs.declared.{link.LinkKind.TheVariants.TrunkLink, path.Path.Path, crosspoint.Crosspoint.Crosspoint}, proofs.WordNumbers.distinct}
 
 -- the link that a field of a switch's word is for; other words have no fields
 abbrev pub field_link : Word → ℕ → Link
@@ -71,10 +65,12 @@ share p q link (inr (inr a)) (inl b) = let e = kinds _ _ (a ∙ sym b) in cc
 share p q link (inr (inr a)) (inr (inl b)) = let e = kinds _ _ (a ∙ sym b) in cc
 
 -- paths with crosspoints at the same field of the same word share a part
-pub meet : (p q : Path) (c d : Crosspoint) → IsPath p → IsPath q → IsIn c (crosspoints p) → IsIn d (crosspoints q) → c.word ≡ d.word → c.field ≡ d.field → SharesPart p q
+pub meet : (p q : Path) (c d : Crosspoint) → IsPath p → IsPath q → IsIn c (crosspoints p) → IsIn d (crosspoints q) → c.word ≡ d.word → c.field ≡ d.field
+    → SharesPart p q
 meet p q c d in_p in_q c_in d_in word field =
     let at_p = stands p c in_p c_in in
     let at_q = stands q d in_q d_in in
     let same : at_q.switch ≡ at_p.switch = distinct at_q.switch at_p.switch at_q.is_word at_p.is_word (sym at_q.number ∙ sym word ∙ at_p.number) in
-    let link_q : HasLink q (field_link at_p.switch c.field) = subst (λ (w : Word). HasLink q (field_link w c.field)) same (subst (λ (f : ℕ). HasLink q (field_link at_q.switch f)) (sym field) at_q.link) in
+    let link_q : HasLink q (field_link at_p.switch c.field) =
+    subst (λ (w : Word). HasLink q (field_link w c.field)) same (subst (λ (f : ℕ). HasLink q (field_link at_q.switch f)) (sym field) at_q.link) in
     share p q (field_link at_p.switch c.field) at_p.link link_q

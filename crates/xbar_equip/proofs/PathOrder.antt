@@ -1,23 +1,22 @@
-use Rattle.std.proofs.Common.{◌≡◌, refl, ◌∙◌, ap}
-use Rattle.std.specs.Ordering.{nat_cmp, ordering_then, ordering_reverse}
-use Rattle.std.specs.declared.cmp.Ordering.{Ordering}
-use Rattle.std.specs.declared.cmp.Ordering.TheVariants.{Less, Equal, Greater}
-use Rattle.std.specs.Cmp.{IsTotalOrder}
-use Rattle.std.proofs.lemmas.Cmp.{nat_cmp_total, then_total, on_total}
-use Rattle.std.proofs.lemmas.Map.Lookups.{exact_unsigned}
-use Rattle.xbar_equip.specs.Len.{Line, line_cmp}
-use Rattle.xbar_equip.specs.Ten.{TrunkPlace, place_cmp}
-use Rattle.xbar_equip.specs.Path.{path_cmp}
-use Rattle.xbar_equip.specs.declared.path.Path.{Path}
+use Rattle.std.proofs.Common.{◌≡◌, refl, ◌∙◌, ap, nat_cmp}
+use Rattle.std.specs.{Ordering.{ordering_then, ordering_reverse}, declared.cmp.Ordering.{Ordering, TheVariants.{Less, Equal, Greater}}, Cmp.IsTotalOrder}
+use Rattle.std.proofs.lemmas.{Cmp.{nat_cmp_total, then_total, on_total}, Map.Lookups.exact_unsigned}
+use Rattle.xbar_equip.specs.{Len.{Line, line_cmp}, Ten.{TrunkPlace, place_cmp}, Path.path_cmp, declared.path.Path.Path}
 
 pub line_cmp_total : IsTotalOrder line_cmp
-line_cmp_total = then_total (on_total (λ line. line.frame) nat_cmp_total) (then_total (on_total (λ line. line.switch) nat_cmp_total) (on_total (λ line. line.x) nat_cmp_total))
+line_cmp_total =
+    then_total (on_total (λ line. line.frame) nat_cmp_total)
+    (then_total (on_total (λ line. line.switch) nat_cmp_total) (on_total (λ line. line.x) nat_cmp_total))
 
 pub place_cmp_total : IsTotalOrder place_cmp
-place_cmp_total = then_total (on_total (λ place. place.frame) nat_cmp_total) (then_total (on_total (λ place. place.switch) nat_cmp_total) (on_total (λ place. place.appearance) nat_cmp_total))
+place_cmp_total =
+    then_total (on_total (λ place. place.frame) nat_cmp_total)
+    (then_total (on_total (λ place. place.switch) nat_cmp_total) (on_total (λ place. place.appearance) nat_cmp_total))
 
 pub path_cmp_total : IsTotalOrder path_cmp
-path_cmp_total = then_total (on_total (λ path. path.line) line_cmp_total) (then_total (on_total (λ path. path.channel) nat_cmp_total) (on_total (λ path. path.place) place_cmp_total))
+path_cmp_total =
+    then_total (on_total (λ path. path.line) line_cmp_total)
+    (then_total (on_total (λ path. path.channel) nat_cmp_total) (on_total (λ path. path.place) place_cmp_total))
 
 both_equal : (a b : Ordering) → ordering_then a b ≡ Equal → (a ≡ Equal) × (b ≡ Equal)
 both_equal Less b e = cc

@@ -1,12 +1,6 @@
-use Rattle.std.proofs.Common.{◌≡◌, ◌≢◌, ◌⊎◌, List, [], ◌∷◌, inl, inr, refl, sym, ◌∙◌, ap, subst}
-use Rattle.std.specs.Prelude.{◌↔◌}
-use Rattle.std.specs.Ordering.{match_ordering}
-use Rattle.std.specs.declared.cmp.Ordering.{Ordering}
-use Rattle.std.specs.declared.cmp.Ordering.TheVariants.{Less, Equal, Greater}
-use Rattle.xbar_equip.specs.Among.{IsIn}
-use Rattle.xbar_equip.specs.Path.{path_cmp}
-use Rattle.xbar_equip.specs.Paths.{IsSet, IsBeforeAll, with_path, without_path}
-use Rattle.xbar_equip.specs.declared.path.Path.{Path}
+use Rattle.std.proofs.Common.{◌≡◌, ◌≢◌, ◌⊎◌, List, [], ◌∷◌, inl, inr, refl, sym, ◌∙◌, ap, subst, ◌↔◌}
+use Rattle.std.specs.{Ordering.match_ordering, declared.cmp.Ordering.{Ordering, TheVariants.{Less, Equal, Greater}}}
+use Rattle.xbar_equip.specs.{Among.IsIn, Path.path_cmp, Paths.{IsSet, IsBeforeAll, with_path, without_path}, declared.path.Path.Path}
 use Rattle.xbar_equip.proofs.PathOrder.{path_cmp_total, exact_path, never_before_itself, before_of_after}
 
 -- a path that comes before all of a list comes before each of its items
@@ -25,7 +19,8 @@ pub before-apart : (p : Path) (paths : List Path) → IsBeforeAll p paths → Is
 before-apart p paths before within = never_before_itself p (before-in p paths p before within)
 
 -- the paths of a set with one more
-with_at : (o : Ordering) (path p q : Path) (paths : List Path) → path_cmp path p ≡ o → (IsIn q (with_path paths path) → (q ≡ path) ⊎ IsIn q paths) → IsIn q (match_ordering o (path ∷ p ∷ paths) (p ∷ paths) (p ∷ with_path paths path)) → (q ≡ path) ⊎ IsIn q (p ∷ paths)
+with_at : (o : Ordering) (path p q : Path) (paths : List Path) → path_cmp path p ≡ o → (IsIn q (with_path paths path) → (q ≡ path) ⊎ IsIn q paths)
+    → IsIn q (match_ordering o (path ∷ p ∷ paths) (p ∷ paths) (p ∷ with_path paths path)) → (q ≡ path) ⊎ IsIn q (p ∷ paths)
 with_at Less path p q paths e later within = within
 with_at Equal path p q paths e later within = inr within
 with_at Greater path p q paths e later (inl here) = inr (inl here)
@@ -35,7 +30,8 @@ pub with-in : (paths : List Path) (path q : Path) → IsIn q (with_path paths pa
 with-in [] path q within = within
 with-in (p ∷ paths) path q within = with_at (path_cmp path p) path p q paths refl (with-in paths path q) within
 
-in_with_at : (o : Ordering) (path p q : Path) (paths : List Path) → path_cmp path p ≡ o → ((q ≡ path) ⊎ IsIn q paths → IsIn q (with_path paths path)) → (q ≡ path) ⊎ IsIn q (p ∷ paths) → IsIn q (match_ordering o (path ∷ p ∷ paths) (p ∷ paths) (p ∷ with_path paths path))
+in_with_at : (o : Ordering) (path p q : Path) (paths : List Path) → path_cmp path p ≡ o → ((q ≡ path) ⊎ IsIn q paths → IsIn q (with_path paths path))
+    → (q ≡ path) ⊎ IsIn q (p ∷ paths) → IsIn q (match_ordering o (path ∷ p ∷ paths) (p ∷ paths) (p ∷ with_path paths path))
 in_with_at Less path p q paths e later within = within
 in_with_at Equal path p q paths e later (inl here) = inl (here ∙ exact_path path p e)
 in_with_at Equal path p q paths e later (inr within) = within
@@ -49,7 +45,8 @@ in-with (p ∷ paths) path q within = in_with_at (path_cmp path p) path p q path
 
 -- a path that comes before another path and before all of a list comes before all of the list with
 -- that path added
-before_with_at : (o : Ordering) (first path p : Path) (paths : List Path) → path_cmp first path ≡ Less → IsBeforeAll first (p ∷ paths) → IsBeforeAll first (with_path paths path) → IsBeforeAll first (match_ordering o (path ∷ p ∷ paths) (p ∷ paths) (p ∷ with_path paths path))
+before_with_at : (o : Ordering) (first path p : Path) (paths : List Path) → path_cmp first path ≡ Less → IsBeforeAll first (p ∷ paths)
+    → IsBeforeAll first (with_path paths path) → IsBeforeAll first (match_ordering o (path ∷ p ∷ paths) (p ∷ paths) (p ∷ with_path paths path))
 before_with_at Less first path p paths less before later = (less, before)
 before_with_at Equal first path p paths less before later = before
 before_with_at Greater first path p paths less before later = (before.0, later)
@@ -58,7 +55,8 @@ before-with : (first path : Path) (paths : List Path) → path_cmp first path �
 before-with first path [] less before = (less, tt)
 before-with first path (p ∷ paths) less before = before_with_at (path_cmp path p) first path p paths less before (before-with first path paths less before.1)
 
-set_with_at : (o : Ordering) (path p : Path) (paths : List Path) → path_cmp path p ≡ o → IsSet (p ∷ paths) → IsSet (with_path paths path) → IsSet (match_ordering o (path ∷ p ∷ paths) (p ∷ paths) (p ∷ with_path paths path))
+set_with_at : (o : Ordering) (path p : Path) (paths : List Path) → path_cmp path p ≡ o → IsSet (p ∷ paths) → IsSet (with_path paths path)
+    → IsSet (match_ordering o (path ∷ p ∷ paths) (p ∷ paths) (p ∷ with_path paths path))
 set_with_at Less path p paths e set later = ((e, before-trans path p paths e set.0), set)
 set_with_at Equal path p paths e set later = set
 set_with_at Greater path p paths e set later = (before-with p path paths (before_of_after path p e) set.0, later)
@@ -69,7 +67,9 @@ set-with [] path set = (tt, tt)
 set-with (p ∷ paths) path set = set_with_at (path_cmp path p) path p paths refl set (set-with paths path set.1)
 
 -- the paths of a set without one
-without_at : (o : Ordering) (path p q : Path) (paths : List Path) → path_cmp path p ≡ o → IsSet (p ∷ paths) → (IsIn q (without_path paths path) → IsIn q paths × (q ≢ path)) → IsIn q (match_ordering o (p ∷ paths) paths (p ∷ without_path paths path)) → IsIn q (p ∷ paths) × (q ≢ path)
+without_at : (o : Ordering) (path p q : Path) (paths : List Path) → path_cmp path p ≡ o → IsSet (p ∷ paths)
+    → (IsIn q (without_path paths path) → IsIn q paths × (q ≢ path)) → IsIn q (match_ordering o (p ∷ paths) paths (p ∷ without_path paths path))
+    → IsIn q (p ∷ paths) × (q ≢ path)
 without_at Less path p q paths e set later within =
     (within, λ same. before-apart path (p ∷ paths) (e, before-trans path p paths e set.0) (subst (λ (x : Path). IsIn x (p ∷ paths)) same within))
 without_at Equal path p q paths e set later within =
@@ -82,7 +82,8 @@ pub without-in : (paths : List Path) (path q : Path) → IsSet paths → IsIn q 
 without-in [] path q set within = absurd within
 without-in (p ∷ paths) path q set within = without_at (path_cmp path p) path p q paths refl set (without-in paths path q set.1) within
 
-in_without_at : (o : Ordering) (path p q : Path) (paths : List Path) → path_cmp path p ≡ o → (IsIn q paths → IsIn q (without_path paths path)) → q ≢ path → IsIn q (p ∷ paths) → IsIn q (match_ordering o (p ∷ paths) paths (p ∷ without_path paths path))
+in_without_at : (o : Ordering) (path p q : Path) (paths : List Path) → path_cmp path p ≡ o → (IsIn q paths → IsIn q (without_path paths path)) → q ≢ path
+    → IsIn q (p ∷ paths) → IsIn q (match_ordering o (p ∷ paths) paths (p ∷ without_path paths path))
 in_without_at Less path p q paths e later other within = within
 in_without_at Equal path p q paths e later other (inl first) = absurd (other (first ∙ sym (exact_path path p e)))
 in_without_at Equal path p q paths e later other (inr within) = within
@@ -93,7 +94,8 @@ pub in-without : (paths : List Path) (path q : Path) → IsIn q paths → q ≢ 
 in-without [] path q within other = absurd within
 in-without (p ∷ paths) path q within other = in_without_at (path_cmp path p) path p q paths refl (λ there. in-without paths path q there other) other within
 
-before_without_at : (o : Ordering) (first path p : Path) (paths : List Path) → IsBeforeAll first (p ∷ paths) → IsBeforeAll first (without_path paths path) → IsBeforeAll first (match_ordering o (p ∷ paths) paths (p ∷ without_path paths path))
+before_without_at : (o : Ordering) (first path p : Path) (paths : List Path) → IsBeforeAll first (p ∷ paths) → IsBeforeAll first (without_path paths path)
+    → IsBeforeAll first (match_ordering o (p ∷ paths) paths (p ∷ without_path paths path))
 before_without_at Less first path p paths before later = before
 before_without_at Equal first path p paths before later = before.1
 before_without_at Greater first path p paths before later = (before.0, later)
@@ -102,7 +104,8 @@ before-without : (first path : Path) (paths : List Path) → IsBeforeAll first p
 before-without first path [] before = tt
 before-without first path (p ∷ paths) before = before_without_at (path_cmp path p) first path p paths before (before-without first path paths before.1)
 
-set_without_at : (o : Ordering) (path p : Path) (paths : List Path) → IsSet (p ∷ paths) → IsSet (without_path paths path) → IsSet (match_ordering o (p ∷ paths) paths (p ∷ without_path paths path))
+set_without_at : (o : Ordering) (path p : Path) (paths : List Path) → IsSet (p ∷ paths) → IsSet (without_path paths path)
+    → IsSet (match_ordering o (p ∷ paths) paths (p ∷ without_path paths path))
 set_without_at Less path p paths set later = set
 set_without_at Equal path p paths set later = set.1
 set_without_at Greater path p paths set later = (before-without p path paths set.0, later)

@@ -1,18 +1,8 @@
-use Rattle.std.proofs.Common.{◌≡◌, ℕ, Bool, true, false, ◌⊎◌, List, [], ◌∷◌, inl, inr, refl, sym, ◌∙◌, ap}
-use Rattle.std.specs.Prelude.{◌↔◌, ◌&&◌, ◌||◌, ◌==◌, not}
-use Rattle.std.specs.List.{list_any}
-use borrow.Author.Tests.{eqb-true, eq-eqb}
-use Rattle.xbar_equip.proofs.Logic.{both, both_hold, either, either_holds, not_either}
+use Rattle.std.proofs.Common.{◌≡◌, ℕ, Bool, true, false, ◌⊎◌, List, [], ◌∷◌, inl, inr, refl, sym, ◌∙◌, ap, ◌↔◌, ◌&&◌, ◌||◌, ◌==◌, not, eqb-true, eq-eqb}
+use Rattle.{std.specs.List.list_any, xbar_equip.proofs.Logic.{both, both_hold, either, either_holds, not_either}}
+use Rattle.xbar_equip.specs.{Len.{Line, line_eq}, Ten.{TrunkPlace, place_eq}, Link.{Link, link_eq, kind_eq}, Among.IsIn, Path.{line_link, junctor, trunk_link}}
+use Rattle.xbar_equip.specs.{Paths.{has_link, is_idle}, declared.{link.LinkKind.{LinkKind, TheVariants.{LineLink, Junctor, TrunkLink}}, path.Path.Path}}
 pub use Rattle.xbar_equip.specs.Equivalences.{conn_eq-exact, conn_eq-itself}
-use Rattle.xbar_equip.specs.Len.{Line, line_eq}
-use Rattle.xbar_equip.specs.Ten.{TrunkPlace, place_eq}
-use Rattle.xbar_equip.specs.Link.{Link, link_eq, kind_eq}
-use Rattle.xbar_equip.specs.Among.{IsIn}
-use Rattle.xbar_equip.specs.Path.{line_link, junctor, trunk_link}
-use Rattle.xbar_equip.specs.Paths.{has_link, is_idle}
-use Rattle.xbar_equip.specs.declared.link.LinkKind.{LinkKind}
-use Rattle.xbar_equip.specs.declared.link.LinkKind.TheVariants.{LineLink, Junctor, TrunkLink}
-use Rattle.xbar_equip.specs.declared.path.Path.{Path}
 
 number_eq-itself : (n : ℕ) → (n == n) ≡ true
 number_eq-itself n = eq-eqb n n refl

@@ -1,16 +1,7 @@
 -- the tests of ranges are the ranges, of one value and of each item of a list
-use Rattle.std.proofs.Common.{◌≡◌, Bool, true, List}
-use Rattle.std.specs.Prelude.{◌&&◌, nat_lt}
-use Rattle.std.proofs.lemmas.Bool.{ltb-true, lt-ltb}
-use Rattle.std.specs.List.{list_all}
-use Rattle.xbar_equip.specs.Among.{IsIn}
-use Rattle.xbar_equip.specs.Len.{Line, IsLine, is_line}
-use Rattle.xbar_equip.specs.Ten.{TrunkPlace, IsTrunkPlace, is_trunk_place}
-use Rattle.xbar_equip.specs.Link.{Link, IsLink, is_link}
-use Rattle.xbar_equip.specs.Path.{IsPath}
-use Rattle.xbar_equip.specs.declared.path.Path.{Path}
-use Rattle.xbar_equip.proofs.Logic.{both, both_hold}
-use Rattle.xbar_equip.proofs.Lists.{each_passes}
+use Rattle.std.proofs.Common.{◌≡◌, Bool, true, List, ◌&&◌, nat_lt, ltb-true, lt-ltb}
+use Rattle.{std.specs.List.list_all, xbar_equip.specs.{Among.IsIn, Len.{Line, IsLine, is_line}, Ten.{TrunkPlace, IsTrunkPlace, is_trunk_place}}}
+use Rattle.xbar_equip.{specs.{Link.{Link, IsLink, is_link}, Path.IsPath, declared.path.Path.Path}, proofs.{Logic.{both, both_hold}, Lists.each_passes}}
 
 three : (a b c : Bool) → (a && b && c) ≡ true → (a ≡ true) × (b ≡ true) × (c ≡ true)
 three a b c e = let x = both (a && b) c e in let y = both a b x.0 in (y.0, y.1, x.1)
@@ -20,7 +11,8 @@ three_hold a b c x y z = both_hold (a && b) c (both_hold a b x y) z
 
 pub line_passes : (line : Line) → IsLine line → is_line line ≡ true
 line_passes line h =
-    three_hold (nat_lt line.frame 10) (nat_lt line.switch 10) (nat_lt line.x 30) (lt-ltb line.frame 10 h.frame) (lt-ltb line.switch 10 h.switch) (lt-ltb line.x 30 h.x)
+    three_hold (nat_lt line.frame 10) (nat_lt line.switch 10) (nat_lt line.x 30) (lt-ltb line.frame 10 h.frame) (lt-ltb line.switch 10 h.switch)
+    (lt-ltb line.x 30 h.x)
 
 pub line_in_range : (line : Line) → is_line line ≡ true → IsLine line
 line_in_range line e =
@@ -29,7 +21,8 @@ line_in_range line e =
 
 pub place_passes : (place : TrunkPlace) → IsTrunkPlace place → is_trunk_place place ≡ true
 place_passes place h =
-    three_hold (nat_lt place.frame 10) (nat_lt place.switch 10) (nat_lt place.appearance 10) (lt-ltb place.frame 10 h.frame) (lt-ltb place.switch 10 h.switch) (lt-ltb place.appearance 10 h.appearance)
+    three_hold (nat_lt place.frame 10) (nat_lt place.switch 10) (nat_lt place.appearance 10) (lt-ltb place.frame 10 h.frame) (lt-ltb place.switch 10 h.switch)
+    (lt-ltb place.appearance 10 h.appearance)
 
 pub place_in_range : (place : TrunkPlace) → is_trunk_place place ≡ true → IsTrunkPlace place
 place_in_range place e =
@@ -38,7 +31,8 @@ place_in_range place e =
 
 pub link_passes : (link : Link) → IsLink link → is_link link ≡ true
 link_passes link h =
-    three_hold (nat_lt link.frame 10) (nat_lt link.at 10) (nat_lt link.channel 10) (lt-ltb link.frame 10 h.frame) (lt-ltb link.at 10 h.at) (lt-ltb link.channel 10 h.channel)
+    three_hold (nat_lt link.frame 10) (nat_lt link.at 10) (nat_lt link.channel 10) (lt-ltb link.frame 10 h.frame) (lt-ltb link.at 10 h.at)
+    (lt-ltb link.channel 10 h.channel)
 
 pub link_in_range : (link : Link) → is_link link ≡ true → IsLink link
 link_in_range link e =
@@ -51,7 +45,8 @@ is_path path = is_line path.line && nat_lt path.channel 10 && is_trunk_place pat
 
 pub path_passes : (path : Path) → IsPath path → is_path path ≡ true
 path_passes path h =
-    three_hold (is_line path.line) (nat_lt path.channel 10) (is_trunk_place path.place) (line_passes path.line h.line) (lt-ltb path.channel 10 h.channel) (place_passes path.place h.place)
+    three_hold (is_line path.line) (nat_lt path.channel 10) (is_trunk_place path.place) (line_passes path.line h.line) (lt-ltb path.channel 10 h.channel)
+    (place_passes path.place h.place)
 
 pub path_in_range : (path : Path) → is_path path ≡ true → IsPath path
 path_in_range path e =

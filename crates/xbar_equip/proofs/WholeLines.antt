@@ -1,10 +1,6 @@
 -- texts and their lines
-use Rattle.std.proofs.Common.{◌≡◌, ℕ, Bool, true, false, cond, List, [], ◌∷◌, ◌++◌, refl, sym, ap, ◌∙◌, append_assoc}
-use Rattle.std.specs.Prelude.{◌==◌, not, flat_map}
-use Rattle.std.specs.List.{list_all, onto_first}
-use borrow.Author.Tests.{eqb-true}
-use Rattle.xbar_equip.proofs.Logic.{both}
-use Rattle.xbar_equip.specs.TextLines.{IsWholeLine, Lacks, lines}
+use Rattle.std.proofs.Common.{◌≡◌, ℕ, Bool, true, false, cond, List, [], ◌∷◌, ◌++◌, refl, sym, ap, ◌∙◌, append_assoc, ◌==◌, not, flat_map, eqb-true}
+use Rattle.{std.specs.List.{list_all, onto_first}, xbar_equip.{proofs.Logic.both, specs.TextLines.{IsWholeLine, Lacks, lines}}}
 
 plain : (x : ℕ) (b : Bool) (text : List ℕ) → not b ≡ true → cond b ((x ∷ []) ∷ lines text) (onto_first x (lines text)) ≡ onto_first x (lines text)
 plain x true text h = cc
@@ -47,7 +43,8 @@ first_of : (x : ℕ) (parts : List (List ℕ)) → flat_map (λ (l : List ℕ). 
 first_of x [] = refl
 first_of x (part ∷ parts) = refl
 
-joined_by : (x : ℕ) (b : Bool) (text : List ℕ) → (x == 10) ≡ b → flat_map (λ (l : List ℕ). l) (lines text) ≡ text → flat_map (λ (l : List ℕ). l) (lines (x ∷ text)) ≡ x ∷ text
+joined_by : (x : ℕ) (b : Bool) (text : List ℕ) → (x == 10) ≡ b → flat_map (λ (l : List ℕ). l) (lines text) ≡ text
+    → flat_map (λ (l : List ℕ). l) (lines (x ∷ text)) ≡ x ∷ text
 joined_by x true text e h =
     let is : x ≡ 10 = eqb-true x 10 e in
     ap (λ (c : ℕ). flat_map (λ (l : List ℕ). l) (lines (c ∷ text))) is ∙ ap (flat_map (λ (l : List ℕ). l)) (end_of_line text)

@@ -1,9 +1,6 @@
 use Rattle.std.proofs.Common.{◌≡◌, ℕ, ◌/◌, ◌%◌, ◌-◌, ◌<◌, ◌≤◌, inl, inr, refl, ◌∙◌, ap, arith}
-use Rattle.std.proofs.lemmas.Bool.{cases_lt}
-use Rattle.xbar_equip.specs.Conn.{IsConn}
-use Rattle.xbar_equip.specs.Word.{Word, IsWord, word_count, word_number, LineSwitch, LineJunctor, TrunkSwitch, TrunkJunctor, GroupWord, ConnWord, TurnWord}
-use Rattle.xbar_equip.specs.declared.conn.Conn.{Conn}
-use Rattle.xbar_equip.specs.declared.conn.Conn.TheVariants.{Llf, Tlf, Group}
+use Rattle.{std.proofs.lemmas.Bool.cases_lt, xbar_equip.specs.{Conn.IsConn, Word.{Word, IsWord, word_count, word_number, LineSwitch, LineJunctor, TrunkSwitch}}}
+use Rattle.xbar_equip.specs.{Word.{TrunkJunctor, GroupWord, ConnWord, TurnWord}, declared.conn.Conn.{Conn, TheVariants.{Llf, Tlf, Group}}}
 
 ap₂ : {A B C : Type 0} (f : A → B → C) {a a' : A} {b b' : B} → a ≡ a' → b ≡ b' → f a b ≡ f a' b'
 ap₂ f {a} {a'} {b} {b'} p q = ap (λ x. f x b) p ∙ ap (λ y. f a' y) q

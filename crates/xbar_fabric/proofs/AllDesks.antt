@@ -1,23 +1,14 @@
 -- desks that are shut together, and the desks below them
-use Rattle.std.proofs.Common.{◌≡◌, ℕ, zero, suc, ◌<◌, true, List, [], ◌∷◌, ◌++◌, length, map, refl, sym, ◌∙◌, ap, inl, inr, subst}
-use Rattle.std.specs.Prelude.{IfSome, Option, Some, None, slice_get, ⊤}
-use Rattle.turns.specs.Among.{IsIn}
+use Rattle.std.proofs.Common.{◌≡◌, ℕ, zero, suc, ◌<◌, true, List, [], ◌∷◌, ◌++◌, length, map, refl, sym, ◌∙◌, ap, inl, inr, subst, IfSome, Option, Some, None}
+use Rattle.std.proofs.Common.{slice_get}
+use Rattle.{std.specs.Prelude.⊤, turns.specs.Among.IsIn, desks.specs.Parts.Begins, xbar_plan.specs.Tables.Tables, xbar_office.specs.declared.job.Job.Job}
+use Rattle.{xbar_office.specs.declared.reply.{Record.Record, Reply.Reply}, xbar_jobs.specs.Office.{ShowsOffice, office}, xbar_moves.specs.Exchange.is_idle}
+use Rattle.xbar_fabric.specs.{Meetings.{AreAllIdle, FabricHasClosed}, Views.{AreBelow, DeskView, FabricView, IsDeskOf, RoomDesk, entered, own, view_at}}
+use Rattle.xbar_fabric.proofs.{Meets.{after_entered, words_after}, Offices.{Order, begins_entered, is_history, own_same}, ToldSteps.free_idle}
+use Rattle.xbar_fabric.proofs.UnusedWords.{unused_word}
 use Rattle.turns.specs.World as worlds
 use Rattle.desks.specs.Met as desks
 use Rattle.desks.specs.Parts as parts
-use Rattle.desks.specs.Parts.{Begins}
-use Rattle.xbar_plan.specs.Tables.{Tables}
-use Rattle.xbar_office.specs.declared.job.Job.{Job}
-use Rattle.xbar_office.specs.declared.reply.Record.{Record}
-use Rattle.xbar_office.specs.declared.reply.Reply.{Reply}
-use Rattle.xbar_jobs.specs.Office.{ShowsOffice, office}
-use Rattle.xbar_moves.specs.Exchange.{is_idle}
-use Rattle.xbar_fabric.specs.Meetings.{AreAllIdle, FabricHasClosed}
-use Rattle.xbar_fabric.specs.Views.{AreBelow, DeskView, FabricView, IsDeskOf, RoomDesk, entered, own, view_at}
-use Rattle.xbar_fabric.proofs.Meets.{after_entered, words_after}
-use Rattle.xbar_fabric.proofs.Offices.{Order, begins_entered, is_history, own_same}
-use Rattle.xbar_fabric.proofs.ToldSteps.{free_idle}
-use Rattle.xbar_fabric.proofs.UnusedWords.{unused_word}
 
 -- a desk below and one above are at the same place
 abbrev pub IsPair : Option RoomDesk → Option DeskView → Type 0
@@ -38,7 +29,8 @@ as_many [] (desk ∷ all) are = absurd are
 as_many (d ∷ below) [] are = absurd are
 as_many (d ∷ below) (desk ∷ all) are = ap suc (as_many below all are.1)
 
-pub below_more : (below : List RoomDesk) (all : List DeskView) (d : RoomDesk) (desk : DeskView) → AreBelow below all → view_at desk.kind d ≡ desk → AreBelow (below ++ d ∷ []) (all ++ desk ∷ [])
+pub below_more : (below : List RoomDesk) (all : List DeskView) (d : RoomDesk) (desk : DeskView) → AreBelow below all → view_at desk.kind d ≡ desk
+    → AreBelow (below ++ d ∷ []) (all ++ desk ∷ [])
 below_more [] [] d desk are is = (is, tt)
 below_more [] (x ∷ all) d desk are is = absurd are
 below_more (e ∷ below) [] d desk are is = absurd are
@@ -46,7 +38,8 @@ below_more (e ∷ below) (x ∷ all) d desk are is = (are.0, below_more below al
 
 module _ (plan : Tables) (fabric : FabricView) (same_plan : fabric.plan ≡ plan) where
   -- idle desks are idle below
-  idle_at : (k : ℕ) (below : Option RoomDesk) (above : Option DeskView) → IsPair below above → IfSome above (λ desk. IsDeskOf desk fabric × (desk.marker ≡ k) × (is_idle desk.work ≡ true))
+  idle_at : (k : ℕ) (below : Option RoomDesk) (above : Option DeskView) → IsPair below above
+      → IfSome above (λ desk. IsDeskOf desk fabric × (desk.marker ≡ k) × (is_idle desk.work ≡ true))
       → IfSome below (λ d. desks.IsIdleDesk (office plan) fabric.table plan k d)
   idle_at k None None pair idle = tt
   idle_at k None (Some desk) pair idle = absurd pair
@@ -58,12 +51,14 @@ module _ (plan : Tables) (fabric : FabricView) (same_plan : fabric.plan ≡ plan
     idle = sym (free_idle plan d.actor) ∙ ap (λ (x : DeskView). is_idle x.work) pair ∙ idle.2;
   }
 
-  pub are_idle : (below : List RoomDesk) (all : List DeskView) → AreBelow below all → AreAllIdle all fabric → desks.AreIdle (office plan) fabric.table plan below
+  pub are_idle : (below : List RoomDesk) (all : List DeskView) → AreBelow below all → AreAllIdle all fabric
+      → desks.AreIdle (office plan) fabric.table plan below
   are_idle below all are idle k = idle_at k (slice_get below k) (slice_get all k) (pair_at below all are k) (idle.each k)
 
 module _ (plan : Tables) where
   -- what was seen below was seen
-  each_at : (k : ℕ) (order : Order) (below : Option RoomDesk) (above : Option DeskView) → IsPair below above → IfSome below (λ d. Begins d.seen order × (parts.own k order ≡ parts.own k d.seen))
+  each_at : (k : ℕ) (order : Order) (below : Option RoomDesk) (above : Option DeskView) → IsPair below above
+      → IfSome below (λ d. Begins d.seen order × (parts.own k order ≡ parts.own k d.seen))
       → IfSome above (λ desk. Begins desk.seen (map entered order) × (own k (map entered order) ≡ own k desk.seen))
   each_at k order None None pair each = tt
   each_at k order None (Some desk) pair each = absurd pair
@@ -72,12 +67,14 @@ module _ (plan : Tables) where
       subst (λ (x : DeskView). Begins x.seen (map entered order) × (own k (map entered order) ≡ own k x.seen)) pair
       (begins_entered d.seen order each.0, own_same k d.seen order each.1)
 
-  theirs_entered : (n : ℕ) (order : Order) → ((r : worlds.Record Job Reply) → IsIn r order → r.actor < n) → (r : Record) → IsIn r (map entered order) → r.marker < n
+  theirs_entered : (n : ℕ) (order : Order) → ((r : worlds.Record Job Reply) → IsIn r order → r.actor < n) → (r : Record) → IsIn r (map entered order)
+      → r.marker < n
   theirs_entered n [] all r within = absurd within
   theirs_entered n (x ∷ order) all r (inl same) = subst (λ (y : Record). y.marker < n) (sym same) (all x (inl refl))
   theirs_entered n (x ∷ order) all r (inr later) = theirs_entered n order (λ y among. all y (inr among)) r later
 
-  pub has_closed : (below : List RoomDesk) (all : List DeskView) (words : List ℕ) → AreBelow below all → desks.HasClosed (office plan) below words → FabricHasClosed plan all words
+  pub has_closed : (below : List RoomDesk) (all : List DeskView) (words : List ℕ) → AreBelow below all → desks.HasClosed (office plan) below words
+      → FabricHasClosed plan all words
   has_closed below all words are closed =
       let ended = closed.ended in
       record {

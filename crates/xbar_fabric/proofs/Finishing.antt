@@ -1,31 +1,22 @@
 -- the step after which nothing is left of a job reports its record
-use Rattle.std.proofs.Common.{◌≡◌, ◌≢◌, ℕ, Bool, true, false, List, [], ◌∷◌, ◌++◌, refl, subst}
-use Rattle.std.specs.Prelude.{◌==◌, Result, Ok, Err, if◌then◌else◌}
+use Rattle.std.proofs.Common.{◌≡◌, ◌≢◌, ℕ, Bool, true, false, List, [], ◌∷◌, ◌++◌, refl, subst, ◌==◌, Result, Ok, Err, if◌then◌else◌}
 use Rattle.turns.specs.Attempt.{HasDecided, act, act_in, answer_to, changed, closing_act, walk_result, free_act, goes_on, next, unless_denied, walks_on}
-use Rattle.turns.specs.Runs.{is_finished}
-use Rattle.turns.specs.Script.{Script, Ends, TestThen, SeizeThen, first_wanted, is_held, left, left_of_seizing, walk}
-use Rattle.turns.specs.Seen.{Seen}
-use Rattle.turns.specs.declared.answer.Answer.TheVariants.{Asked, Seized, Again, Done}
-use Rattle.turns.specs.declared.judgement.Judgement.{Judgement}
+use Rattle.turns.specs.{Runs.is_finished, Script.{Script, Ends, TestThen, SeizeThen, first_wanted, is_held, left, left_of_seizing, walk}, Seen.Seen}
+use Rattle.turns.specs.declared.{answer.Answer.TheVariants.{Asked, Seized, Again, Done}, judgement.Judgement.Judgement, phase.Phase.TheVariants.Requests}
+use Rattle.turns.specs.declared.{phase.Phase.TheVariants.{Seizes, Tests, Turns, Withdraws, GivesBack, Operates}, wanted.Wanted.{Wanted, TheVariants.Seize}}
+use Rattle.{turns.specs.declared.wanted.Wanted.TheVariants.Test, xbar_equip.specs.{Conn.conn_eq, declared.conn.Conn.Conn}, xbar_plan.specs.Tables.Tables}
+use Rattle.xbar_jobs.specs.{Attempt.{Attempt, Phase}, Office.office, declared.{decision.Decision.Decision, effect.Effect.Effect}}
 use Rattle.turns.specs.declared.judgement.Judgement.TheVariants as judgement
-use Rattle.turns.specs.declared.phase.Phase.TheVariants.{Requests, Seizes, Tests, Turns, Withdraws, GivesBack, Operates}
-use Rattle.turns.specs.declared.wanted.Wanted.{Wanted}
-use Rattle.turns.specs.declared.wanted.Wanted.TheVariants.{Seize, Test}
-use Rattle.xbar_equip.specs.Conn.{conn_eq}
-use Rattle.xbar_equip.specs.declared.conn.Conn.{Conn}
-use Rattle.xbar_plan.specs.Tables.{Tables}
-use Rattle.xbar_jobs.specs.Attempt.{Attempt, Phase}
-use Rattle.xbar_jobs.specs.Office.{office}
-use Rattle.xbar_jobs.specs.declared.decision.Decision.{Decision}
-use Rattle.xbar_jobs.specs.declared.effect.Effect.{Effect}
 
 -- a script that seizes a connector first is not at its end while nothing is held
-first_seizes : (seen : Seen Conn) (script : Script Conn Decision) (conn : Conn) (decision : Decision) → seen.held ≡ [] → first_wanted script ≡ Err (Seize conn) → walk conn_eq seen script ≢ Ok decision
+first_seizes : (seen : Seen Conn) (script : Script Conn Decision) (conn : Conn) (decision : Decision) → seen.held ≡ [] → first_wanted script ≡ Err (Seize conn)
+    → walk conn_eq seen script ≢ Ok decision
 unfolding first_wanted walk left left_of_seizing is_held
 first_seizes seen (Ends found) conn decision none first come = absurd cc
 first_seizes seen (TestThen word script) conn decision none first come = absurd cc
 first_seizes seen (SeizeThen lock script) conn decision none first come =
-    let is : first_wanted (left_of_seizing script (left conn_eq seen script) lock (is_held conn_eq [] lock)) ≡ Ok decision = subst (λ (held : List Conn). first_wanted (left_of_seizing script (left conn_eq seen script) lock (is_held conn_eq held lock)) ≡ Ok decision) none come in
+    let is : first_wanted (left_of_seizing script (left conn_eq seen script) lock (is_held conn_eq [] lock)) ≡ Ok decision =
+    subst (λ (held : List Conn). first_wanted (left_of_seizing script (left conn_eq seen script) lock (is_held conn_eq held lock)) ≡ Ok decision) none come in
     absurd cc
 
 module _ (plan : Tables) where
@@ -42,12 +33,14 @@ module _ (plan : Tables) where
   walked_busy : (a : Attempt) → is_finished (act (walks_on (office plan) a)) ≡ true → ⊥
   walked_busy a rests = goes_on_busy a (walk_result (office plan) a) rests
 
-  asked_busy : (a : Attempt) (conn : Conn) (word : ℕ) (j : Judgement) → is_finished (act (changed (office plan) a (Requests conn) (unless_denied (Asked word) j))) ≡ true → ⊥
+  asked_busy : (a : Attempt) (conn : Conn) (word : ℕ) (j : Judgement)
+      → is_finished (act (changed (office plan) a (Requests conn) (unless_denied (Asked word) j))) ≡ true → ⊥
   asked_busy a conn word judgement.Free rests = cc
   asked_busy a conn word (judgement.Held holder) rests = cc
   asked_busy a conn word (judgement.Preferred other) rests = cc
 
-  seized_busy : (a : Attempt) (conn : Conn) (expected word : ℕ) (same : Bool) (j : Judgement) → is_finished (act (changed (office plan) a (Seizes conn expected) (if same then Seized else unless_denied (Again word) j))) ≡ true → ⊥
+  seized_busy : (a : Attempt) (conn : Conn) (expected word : ℕ) (same : Bool) (j : Judgement)
+      → is_finished (act (changed (office plan) a (Seizes conn expected) (if same then Seized else unless_denied (Again word) j))) ≡ true → ⊥
   seized_busy a conn expected word true j rests = walked_busy (record a { held = a.held ++ conn ∷ [] }) rests
   seized_busy a conn expected word false judgement.Free rests = cc
   seized_busy a conn expected word false (judgement.Held holder) rests = cc
@@ -69,7 +62,8 @@ module _ (plan : Tables) where
 
   -- the answer to a step after which an attempt is at rest is Done
   rests_done : (k found : ℕ) (a : Attempt) (phase : Phase) → (phase ≡ Turns → a.held ≢ [])
-      → is_finished (act (changed (office plan) a phase (answer_to (office plan) k (act_in phase a) found))) ≡ true → answer_to (office plan) k (act_in phase a) found ≡ Done
+      → is_finished (act (changed (office plan) a phase (answer_to (office plan) k (act_in phase a) found))) ≡ true
+      → answer_to (office plan) k (act_in phase a) found ≡ Done
   rests_done k found a (Requests conn) holds rests = absurd (asked_busy a conn _ _ rests)
   rests_done k found a (Seizes conn expected) holds rests = absurd (seized_busy a conn expected found (found == expected) _ rests)
   rests_done k found a (Tests word) holds rests = absurd (walked_busy (record a { readings = a.readings ++ record { word = word; value = found } ∷ [] }) rests)
@@ -78,5 +72,6 @@ module _ (plan : Tables) where
   rests_done k found a GivesBack holds rests = freed_done k found a.held
   rests_done k found a (Operates turn) holds rests = closed_done k found a.effects a.held
 
-  pub ends_done : (k found : ℕ) (a : Attempt) → (a.phase ≡ Turns → a.held ≢ []) → is_finished (act (next (office plan) k a found)) ≡ true → answer_to (office plan) k (act a) found ≡ Done
+  pub ends_done : (k found : ℕ) (a : Attempt) → (a.phase ≡ Turns → a.held ≢ []) → is_finished (act (next (office plan) k a found)) ≡ true
+      → answer_to (office plan) k (act a) found ≡ Done
   ends_done k found a holds rests = rests_done k found a a.phase holds rests

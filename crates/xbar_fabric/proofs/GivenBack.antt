@@ -1,24 +1,12 @@
 -- a desk that gives back
-use Rattle.std.proofs.Common.{◌≡◌, ℕ, zero, suc, Bool, true, false, refl, ◌∙◌, ap}
-use Rattle.std.specs.Prelude.{is_some, if◌then◌else◌}
-use Rattle.atomic_table.specs.Seated.{TableId}
-use Rattle.turns.specs.Attempt.{act, begin_with, change, turn_in}
-use Rattle.turns.specs.Runs.{is_finished}
-use Rattle.turns.specs.World.{Idle, Does}
-use Rattle.turns.specs.declared.phase.Phase.TheVariants.{Requests, Seizes, Tests, Turns, Withdraws, GivesBack, Operates}
+use Rattle.std.proofs.Common.{◌≡◌, ℕ, zero, suc, Bool, true, false, refl, ◌∙◌, ap, is_some, if◌then◌else◌}
+use Rattle.{atomic_table.specs.Seated.TableId, turns.specs.{Attempt.{act, begin_with, change, turn_in}, Runs.is_finished, World.{Idle, Does}}}
+use Rattle.turns.specs.{declared.phase.Phase.TheVariants.{Requests, Seizes, Tests, Turns, Withdraws, GivesBack, Operates}, Outcomes.given_back}
+use Rattle.{xbar_plan.specs.Tables.Tables, xbar_jobs.specs.{Attempt.{Attempt, Phase}, Jobs.first_conn, Office.office}}
+use Rattle.xbar_moves.specs.{Exchange.Work, Moves.{event_of, given_by}, declared.kind.Kind.Kind}
+use Rattle.xbar_fabric.{specs.Advances.{MarkerHasGivenBack, MarkerHasMade}, proofs.{Offices.Order, Steps.{desk_at, has_stepped}}}
 use Rattle.desks.specs.Desks as desks
-use Rattle.turns.specs.Outcomes.{begun_anew}
-use Rattle.xbar_plan.specs.Tables.{Tables}
-use Rattle.xbar_jobs.specs.Attempt.{Attempt, Phase}
-use Rattle.xbar_jobs.specs.Jobs.{first_conn}
-use Rattle.xbar_jobs.specs.Office.{office}
-use Rattle.xbar_moves.specs.Exchange.{Work}
-use Rattle.xbar_moves.specs.Moves.{event_of, given_by}
 use Rattle.xbar_moves.specs.declared.given.Given.TheVariants as given
-use Rattle.xbar_moves.specs.declared.kind.Kind.{Kind}
-use Rattle.xbar_fabric.specs.Advances.{MarkerHasGivenBack, MarkerHasMade}
-use Rattle.xbar_fabric.proofs.Offices.{Order}
-use Rattle.xbar_fabric.proofs.Steps.{desk_at, has_stepped}
 
 pub not_turned : (rests turned : Bool) → (if rests then given.Idle else (if turned then given.PastTurn else given.Given)) ≡ given.Given → turned ≡ false
 not_turned true turned is = absurd cc
@@ -27,7 +15,8 @@ not_turned false false is = refl
 
 module _ (plan : Tables) (table : TableId) (kind : Kind) (k : ℕ) where
   -- steps of the desk below are as many steps of the marker
-  has_made : (count : ℕ) (before after : Work) (seen seen_after : Order) → desks.HasMade (office plan) k count before after seen seen_after → MarkerHasMade count (desk_at table plan kind k before seen) (desk_at table plan kind k after seen_after)
+  has_made : (count : ℕ) (before after : Work) (seen seen_after : Order) → desks.HasMade (office plan) k count before after seen seen_after
+      → MarkerHasMade count (desk_at table plan kind k before seen) (desk_at table plan kind k after seen_after)
   has_made zero before after seen seen_after made = λ i. desk_at table plan kind k (made.0 i) (made.1 i)
   has_made (suc count) before after seen seen_after (between, seen_between, answer, made, asks, step) = (
     desk_at table plan kind k between seen_between,
@@ -38,20 +27,22 @@ module _ (plan : Tables) (table : TableId) (kind : Kind) (k : ℕ) where
   )
 
   -- what has given back before its turn is at the beginning of its job
-  begins_anew : (a : Attempt) (phase : Phase) → is_some (turn_in phase) ≡ false → begun_anew (office plan) phase a ≡ begin_with (first_conn a.job) a.job
-  begins_anew a (Requests conn) early = refl
-  begins_anew a (Seizes conn expected) early = refl
-  begins_anew a (Tests word) early = refl
-  begins_anew a Turns early = refl
-  begins_anew a (Withdraws conn) early = refl
-  begins_anew a GivesBack early = refl
-  begins_anew a (Operates turn) early = absurd cc
+  starts_over : (a : Attempt) (phase : Phase) → is_some (turn_in phase) ≡ false → given_back (office plan) phase a ≡ begin_with (first_conn a.job) a.job
+  starts_over a (Requests conn) early = refl
+  starts_over a (Seizes conn expected) early = refl
+  starts_over a (Tests word) early = refl
+  starts_over a Turns early = refl
+  starts_over a (Withdraws conn) early = refl
+  starts_over a GivesBack early = refl
+  starts_over a (Operates turn) early = absurd cc
 
-  pub gives_back : (before after : Work) (seen seen_after : Order) → given_by before ≡ given.Given → desks.HasGivenBack (office plan) k before after seen seen_after → MarkerHasGivenBack (desk_at table plan kind k before seen) (desk_at table plan kind k after seen_after)
+  pub gives_back : (before after : Work) (seen seen_after : Order) → given_by before ≡ given.Given
+      → desks.HasGivenBack (office plan) k before after seen seen_after
+      → MarkerHasGivenBack (desk_at table plan kind k before seen) (desk_at table plan kind k after seen_after)
   gives_back Idle after seen seen_after gives back = absurd cc
   gives_back (Does number a) after seen seen_after gives back = record {
     count = back.count;
     few = back.few;
     made = has_made back.count _ after seen seen_after back.made;
-    begins = back.after_is ∙ ap (λ (b : Attempt). Does number b) (begins_anew a a.phase (not_turned (is_finished (act a)) (is_some (turn_in a.phase)) gives));
+    begins = back.after_is ∙ ap (λ (b : Attempt). Does number b) (starts_over a a.phase (not_turned (is_finished (act a)) (is_some (turn_in a.phase)) gives));
   }

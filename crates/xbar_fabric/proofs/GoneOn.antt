@@ -1,26 +1,13 @@
 -- what a step promises of which only the answer is reported
-use Rattle.std.proofs.Common.{◌≡◌, ℕ, Bool, true, false, refl, sym, ◌∙◌}
-use Rattle.std.specs.Prelude.{IfNone, IfSome, Option, Some, None}
-use Rattle.atomic_table.specs.Seated.{TableId}
-use Rattle.turns.specs.Law.{IsLegal}
-use Rattle.turns.specs.Runs.{is_available}
+use Rattle.std.proofs.Common.{◌≡◌, ℕ, Bool, true, false, refl, sym, ◌∙◌, IfNone, IfSome, Option, Some, None}
+use Rattle.{atomic_table.specs.Seated.TableId, turns.specs.{Law.IsLegal, Runs.is_available, declared.answer.Answer.Answer}}
+use Rattle.{desks.{specs.declared.progress.JobRecord.JobRecord, proofs.Ending.{tells_at_end, told_at_end}}, xbar_plan.specs.{Tables.Tables, Lawful.IsLawful}}
+use Rattle.{xbar_office.specs.declared.{job.Job.Job, reply.Reply.Reply}, xbar_jobs.specs.Office.office}
+use Rattle.{xbar_moves.specs.{Exchange.{Work, is_idle}, declared.kind.Kind.Kind}, xbar_fabric.specs.Advances.IsAnswered}
+use Rattle.xbar_fabric.proofs.{Offices.Order, Steps.{has_stepped, is_answered}, ToldSteps.{finishes_job, free_idle, moves, never_idle, new, old, stays}}
 use Rattle.turns.specs.World as worlds
-use Rattle.turns.specs.declared.answer.Answer.{Answer}
 use Rattle.desks.specs.Desks as desks
-use Rattle.desks.specs.declared.progress.JobRecord.{JobRecord}
-use Rattle.desks.proofs.Ending.{tells_at_end, told_at_end}
-use Rattle.xbar_plan.specs.Tables.{Tables}
-use Rattle.xbar_plan.specs.Lawful.{IsLawful}
-use Rattle.xbar_office.specs.declared.job.Job.{Job}
-use Rattle.xbar_office.specs.declared.reply.Reply.{Reply}
-use Rattle.xbar_jobs.specs.Office.{office}
-use Rattle.xbar_moves.specs.Exchange.{Work, is_idle}
 use Rattle.xbar_moves.specs.declared.event.Event.TheVariants as event
-use Rattle.xbar_moves.specs.declared.kind.Kind.{Kind}
-use Rattle.xbar_fabric.specs.Advances.{IsAnswered}
-use Rattle.xbar_fabric.proofs.Offices.{Order}
-use Rattle.xbar_fabric.proofs.Steps.{has_stepped, is_answered}
-use Rattle.xbar_fabric.proofs.ToldSteps.{finishes_job, free_idle, moves, never_idle, new, old, stays}
 
 module _ (plan : Tables) (table : TableId) (kind : Kind) (k : ℕ) (before after : Work) (seen seen_after : Order) where
   abbrev pub Answered : Option Answer → Type 0
@@ -38,7 +25,8 @@ module _ (plan : Tables) (table : TableId) (kind : Kind) (k : ℕ) (before after
     }
 
     -- the last step of the job
-    at_end : IsLawful plan → (free : is_available (office plan) after ≡ true) → (reported : worlds.Record Job Reply) → desks.IsReported (office plan) k after seen_after reported → Answered (Some answer)
+    at_end : IsLawful plan → (free : is_available (office plan) after ≡ true) → (reported : worlds.Record Job Reply)
+        → desks.IsReported (office plan) k after seen_after reported → Answered (Some answer)
     unfolding finishes_job has_stepped
     at_end laws free reported is_told = record {
       event = _;
@@ -47,19 +35,24 @@ module _ (plan : Tables) (table : TableId) (kind : Kind) (k : ℕ) (before after
       answered = λ _. is_answered plan kind k before after seen seen_after answer step;
     }
 
-    pub step_answered : IsLawful plan → IsLegal (office plan) 0 (office plan).opening seen_after → desks.HasEndedIn (office plan) seen_after k after → Answered (Some answer)
+    pub step_answered : IsLawful plan → IsLegal (office plan) 0 (office plan).opening seen_after → desks.HasEndedIn (office plan) seen_after k after
+        → Answered (Some answer)
     step_answered laws legal ends = by (is_available (office plan) after) refl where
-      tells : is_available (office plan) after ≡ true → (it : Option (JobRecord Job Reply)) → desks.job_record_of (office plan) k after ≡ it → Answered (Some answer)
+      tells : is_available (office plan) after ≡ true → (it : Option (JobRecord Job Reply)) → desks.job_record_of (office plan) k after ≡ it
+          → Answered (Some answer)
       tells free None none = absurd (tells_at_end (office plan) k after seen_after ends free none)
-      tells free (Some reported) is = at_end laws free (desks.as_record reported) (told_at_end (office plan) k after seen_after reported legal ends free (sym is))
+      tells free (Some reported) is =
+          at_end laws free (desks.as_record reported) (told_at_end (office plan) k after seen_after reported legal ends free (sym is))
 
       by : (free : Bool) → is_available (office plan) after ≡ free → Answered (Some answer)
       by false goes = on_its_way goes
       by true free = tells free (desks.job_record_of (office plan) k after) refl
 
   -- an idle desk makes no step, and has no answer
-  pub has_answered : IsLawful plan → IsLegal (office plan) 0 (office plan).opening seen_after → (Same : Type 0) → (Same → (after ≡ before) × (seen_after ≡ seen)) → (answer : Option Answer) → IfNone answer ((is_available (office plan) before ≡ true) × Same)
-      → IfSome answer (desks.HasStepped (office plan) k before after seen seen_after) → IfSome answer (λ a. desks.HasEndedIn (office plan) seen_after k after) → Answered answer
+  pub has_answered : IsLawful plan → IsLegal (office plan) 0 (office plan).opening seen_after → (Same : Type 0)
+      → (Same → (after ≡ before) × (seen_after ≡ seen)) → (answer : Option Answer) → IfNone answer ((is_available (office plan) before ≡ true) × Same)
+      → IfSome answer (desks.HasStepped (office plan) k before after seen seen_after) → IfSome answer (λ a. desks.HasEndedIn (office plan) seen_after k after)
+      → Answered answer
   has_answered laws legal Same same None none stepped ends =
       let idle : is_idle before ≡ true = free_idle plan before ∙ none.0 in
       record {

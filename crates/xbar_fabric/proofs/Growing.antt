@@ -1,14 +1,8 @@
 -- what a desk has seen grows by its steps
 use Rattle.std.proofs.Common.{◌≡◌, ℕ, zero, suc, List, [], ◌++◌, append-nil, append_assoc, inl, inr, sym, ◌∙◌, ap}
-use Rattle.desks.specs.Parts.{Begins}
-use Rattle.xbar_office.specs.declared.reply.Record.{Record}
-use Rattle.xbar_moves.specs.AtWork.{answer_to_step}
-use Rattle.xbar_moves.specs.Exchange.{Exchange}
-use Rattle.xbar_moves.specs.Moves.{added_record, after_step}
-use Rattle.xbar_moves.specs.declared.event.Event.{Event}
-use Rattle.xbar_moves.proofs.StepCases.{step_cases}
-use Rattle.xbar_fabric.specs.Advances.{MarkerHasMade, MarkerHasRun, MarkerHasStepped}
-use Rattle.xbar_fabric.specs.Views.{DeskView}
+use Rattle.{desks.specs.Parts.Begins, xbar_office.specs.declared.reply.Record.Record}
+use Rattle.xbar_moves.specs.{AtWork.answer_to_step, Exchange.Exchange, Moves.{added_record, after_step}, declared.event.Event.Event}
+use Rattle.{xbar_moves.proofs.StepCases.step_cases, xbar_fabric.specs.{Advances.{MarkerHasMade, MarkerHasRun, MarkerHasStepped}, Views.DeskView}}
 
 -- what begins by these begins by fewer
 pub begins_both : (one two three : List Record) → Begins one two → Begins two three → Begins one three
@@ -18,16 +12,23 @@ pub begins_same : (before after : DeskView) → after ≡ before → Begins befo
 begins_same before after same = ([], ap (λ (d : DeskView). d.seen) same ∙ sym (append-nil before.seen))
 
 -- an office's records grow by a step
-records_grow : (before after : DeskView) (event : Event) (step : MarkerHasStepped before after event) → Begins step.office.records (after_step before.plan before.marker step.office).records
+records_grow : (before after : DeskView) (event : Event) (step : MarkerHasStepped before after event)
+    → Begins step.office.records (after_step before.plan before.marker step.office).records
 records_grow before after event step = elim (step_cases before.plan step.office before.marker) [
   | inl same ↦ ([], ap (λ (x : Exchange). x.records) same ∙ sym (append-nil step.office.records))
-  | inr made ↦ (added_record before.marker made.number made.attempt (answer_to_step before.marker step.office.words made.attempt), ap (λ (x : Exchange). x.records) made.is)
+  | inr
+      made ↦ (
+        added_record before.marker made.number made.attempt (answer_to_step before.marker step.office.words made.attempt),
+        ap (λ (x : Exchange). x.records) made.is,
+      )
 ]
 
 -- and so does what a desk has seen
 step_begins : (before after : DeskView) (event : Event) → MarkerHasStepped before after event → Begins before.seen after.seen
 step_begins before after event step =
-    let all = begins_both before.seen step.office.records (after_step before.plan before.marker step.office).records step.agrees.begins (records_grow before after event step) in
+    let all =
+    begins_both before.seen step.office.records (after_step before.plan before.marker step.office).records step.agrees.begins
+    (records_grow before after event step) in
     (all.0, step.seen_is ∙ all.1)
 
 -- by many steps too

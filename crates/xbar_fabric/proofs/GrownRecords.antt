@@ -1,31 +1,17 @@
 -- what a desk's steps make of its own records and of its job
-use Rattle.std.proofs.Common.{◌≡◌, ℕ, zero, suc, Bool, true, false, List, [], ◌∷◌, ◌++◌, append-nil, append_assoc, inl, inr, refl, sym, ◌∙◌, ap, subst}
-use Rattle.std.specs.Prelude.{Option, Some, None, is_some, option_map, slice_get, unwrap_or}
-use Rattle.std.proofs.lemmas.Option.{same_Some}
-use Rattle.turns.specs.Attempt.{act, change, turn_in}
-use Rattle.turns.specs.Runs.{is_finished}
-use Rattle.turns.specs.World.{Idle, Does}
-use Rattle.turns.specs.declared.answer.Answer.{Answer}
+use Rattle.std.proofs.Common.{◌≡◌, ℕ, zero, suc, Bool, true, false, List, [], ◌∷◌, ◌++◌, append-nil, append_assoc, inl, inr, refl, sym, ◌∙◌, ap, subst, Option}
+use Rattle.std.proofs.Common.{Some, None, is_some, option_map, slice_get, unwrap_or}
+use Rattle.{std.proofs.lemmas.Option.same_Some, turns.specs.{Attempt.{act, change, turn_in}, Runs.is_finished, World.{Idle, Does}}}
+use Rattle.{turns.specs.declared.answer.Answer.Answer, xbar_equip.specs.declared.conn.Conn.Conn, xbar_office.specs.declared.{job.Job.Job, reply.Record.Record}}
+use Rattle.{xbar_office.specs.declared.reply.Reply.Reply, xbar_jobs.specs.{Attempt.Attempt, Office.office}, xbar_moves.specs.AtWork.answer_to_step}
+use Rattle.xbar_moves.specs.{Exchange.{Exchange, Marker, Work, is_idle, on_job}, Moves.{added_record, after_step, event_of, finished, given_by, moved_on}}
+use Rattle.xbar_moves.{specs.{Moves.{own_record, record_of, refused_by, restarted_work}, declared.event.Event.Event}, proofs.StepCases.{IsMade, gone_on, step_cases}}
+use Rattle.{xbar_moves.proofs.Steps.has_come, xbar_fabric.specs.Advances.{MarkerHasAdvanced, MarkerHasGivenBack, MarkerHasMade, MarkerHasStepped, at_beginning}}
+use Rattle.xbar_fabric.specs.{Histories.{job_at, turned_of}, Views.{DeskView, marker_of, mine, own}}
+use Rattle.xbar_fabric.proofs.{GivenBack.not_turned, OwnRecords.{changed_job, own_added, own_append, step_grows}}
 use Rattle.turns.specs.declared.answer.Answer.TheVariants as answer
-use Rattle.xbar_equip.specs.declared.conn.Conn.{Conn}
-use Rattle.xbar_office.specs.declared.job.Job.{Job}
-use Rattle.xbar_office.specs.declared.reply.Record.{Record}
-use Rattle.xbar_office.specs.declared.reply.Reply.{Reply}
-use Rattle.xbar_jobs.specs.Attempt.{Attempt}
-use Rattle.xbar_jobs.specs.Office.{office}
-use Rattle.xbar_moves.specs.AtWork.{answer_to_step}
-use Rattle.xbar_moves.specs.Exchange.{Exchange, Marker, Work, is_idle, on_job}
-use Rattle.xbar_moves.specs.Moves.{added_record, after_step, event_of, finished, given_by, moved_on, own_record, record_of, refused_by, work_anew}
-use Rattle.xbar_moves.specs.declared.event.Event.{Event}
 use Rattle.xbar_moves.specs.declared.event.Event.TheVariants as event
 use Rattle.xbar_moves.specs.declared.given.Given.TheVariants as given
-use Rattle.xbar_moves.proofs.StepCases.{IsMade, gone_on, step_cases}
-use Rattle.xbar_moves.proofs.Steps.{has_come}
-use Rattle.xbar_fabric.specs.Advances.{MarkerHasAdvanced, MarkerHasGivenBack, MarkerHasMade, MarkerHasStepped, at_beginning}
-use Rattle.xbar_fabric.specs.Histories.{job_at, turned_of}
-use Rattle.xbar_fabric.specs.Views.{DeskView, marker_of, mine, own}
-use Rattle.xbar_fabric.proofs.GivenBack.{not_turned}
-use Rattle.xbar_fabric.proofs.OwnRecords.{changed_job, own_added, own_append, step_grows}
 
 -- the record of marker k's job, once that has turned
 abbrev turned_at : ℕ → Work → List Record
@@ -95,7 +81,8 @@ module _ (before after : DeskView) (event : Event) (step : MarkerHasStepped befo
       let a = made.attempt in
       let reported = answer_to_step before.marker step.office.words made.attempt in
       let later = gone_on before.plan step.office before.marker n a made.at made.goes in
-      let was : before.work ≡ Does made.number made.attempt = ap (λ (o : Marker). o.work) (same_Some (marker_of before) made.at.marker (sym step.agrees.there ∙ made.at.there)) ∙ made.at.work in
+      let was : before.work ≡ Does made.number made.attempt =
+      ap (λ (o : Marker). o.work) (same_Some (marker_of before) made.at.marker (sym step.agrees.there ∙ made.at.there)) ∙ made.at.work in
       let work = work_now (Does n (change (office before.plan) a reported)) later.marker later.work later.there in
       record {
         more = added_record before.marker made.number made.attempt (answer_to_step before.marker step.office.words made.attempt);
@@ -124,7 +111,8 @@ module _ (before after : DeskView) (event : Event) (step : MarkerHasStepped befo
 -- by many
 pub steps_grown : (count : ℕ) (before after : DeskView) → MarkerHasMade count before after → HasGrown before after
 steps_grown zero before after same = still_grown before after same
-steps_grown (suc count) before after (between, event, made, asks, step) = both_grown before between after (steps_grown count before between made) (step_grown between after event step)
+steps_grown (suc count) before after (between, event, made, asks, step) =
+    both_grown before between after (steps_grown count before between made) (step_grown between after event step)
 
 -- and by an advance
 pub advance_grown : (before after : DeskView) (event : Event) → MarkerHasAdvanced before after event → HasGrown before after
@@ -134,13 +122,15 @@ advance_grown before after event advanced = by (is_idle before.work) refl where
   by false busy = step_grown before after event (advanced.stepped busy)
 
 module _ (k number : ℕ) (after : Attempt) (r : Record) where
-  by_reply : (turn : ℕ) (reply : Option Reply) → after.reply ≡ reply → finished (record_of turn k number (record after { reply = reply })) ≡ event.Finished r → record_of turn k number after ≡ r ∷ []
+  by_reply : (turn : ℕ) (reply : Option Reply) → after.reply ≡ reply → finished (record_of turn k number (record after { reply = reply })) ≡ event.Finished r
+      → record_of turn k number after ≡ r ∷ []
   by_reply turn None replied is = absurd cc
   by_reply turn (Some reply) replied is =
       let one : record { turn = turn; marker = k; job_no = number; job = after.job; reply = reply } ≡ r = cc in
       ap (λ (its : Option Reply). record_of turn k number (record after { reply = its })) replied ∙ ap (λ (x : Record). x ∷ []) one
 
-  by_turn : (turned : Option ℕ) → finished (unwrap_or (option_map (λ turn. record_of turn k number after) turned) []) ≡ event.Finished r → unwrap_or (option_map (λ turn. record_of turn k number after) turned) [] ≡ r ∷ []
+  by_turn : (turned : Option ℕ) → finished (unwrap_or (option_map (λ turn. record_of turn k number after) turned) []) ≡ event.Finished r
+      → unwrap_or (option_map (λ turn. record_of turn k number after) turned) [] ≡ r ∷ []
   by_turn None is = absurd cc
   by_turn (Some turn) is = by_reply turn after.reply refl is
 
@@ -166,7 +156,8 @@ module _ (k number : ℕ) (after : Attempt) (r : Record) where
 step_ends : (before after : DeskView) (r : Record) → is_idle before.work ≡ false → MarkerHasStepped before after (event.Finished r) → turned_of after ≡ r ∷ []
 step_ends before after r busy step =
     let come = has_come before.plan step.office before.marker (event.Finished r) (λ same. cc) (sym step.event_is) in
-    let was : before.work ≡ Does come.number come.attempt = ap (λ (o : Marker). o.work) (same_Some (marker_of before) come.at.marker (sym step.agrees.there ∙ come.at.there)) ∙ come.at.work in
+    let was : before.work ≡ Does come.number come.attempt =
+    ap (λ (o : Marker). o.work) (same_Some (marker_of before) come.at.marker (sym step.agrees.there ∙ come.at.there)) ∙ come.at.work in
     let goes = subst (λ (w : Work). is_idle w ≡ false) was busy in
     let later = gone_on before.plan step.office before.marker come.number come.attempt come.at goes in
     turned_now before after (event.Finished r) step
@@ -198,9 +189,10 @@ none_behind [] more is = sym is
 none_behind (r ∷ l) more is = absurd cc
 
 -- a desk that has given back has no record of its job, and as many own records as before
-pub back_adds_none : (before after : DeskView) → given_by before.work ≡ given.Given → MarkerHasGivenBack before after → (turned_of before ≡ []) × (turned_of after ≡ []) × (mine after ≡ mine before)
+pub back_adds_none : (before after : DeskView) → given_by before.work ≡ given.Given → MarkerHasGivenBack before after
+    → (turned_of before ≡ []) × (turned_of after ≡ []) × (mine after ≡ mine before)
 back_adds_none before after gives back =
-    let start : DeskView = record before { work = work_anew before.plan before.work } in
+    let start : DeskView = record before { work = restarted_work before.plan before.work } in
     let grown = steps_grown back.count start after back.made in
     let bare : turned_of after ≡ [] = ap (turned_at after.marker) back.begins ∙ begun_bare after.marker before.work in
     let none = none_behind (turned_of start) grown.more (sym bare ∙ grown.turned_is) in

@@ -1,32 +1,23 @@
 -- what desks below have seen of a meeting and a shutting, as records, sets of paths and connectors
-use Rattle.std.proofs.Common.{◌≡◌, ℕ, ◌%◌, ◌^◌, List, [], length, map, refl, sym, ◌∙◌, ap, subst}
-use Rattle.std.specs.Prelude.{slice_index}
-use Rattle.atomic_table.specs.Seated.{TableId}
-use Rattle.turns.specs.System.{AreWords}
+use Rattle.std.proofs.Common.{◌≡◌, ℕ, ◌%◌, ◌^◌, List, [], length, map, refl, sym, ◌∙◌, ap, subst, slice_index}
+use Rattle.{atomic_table.specs.Seated.TableId, turns.specs.{System.AreWords, World.World}}
+use Rattle.{xbar_equip.specs.{Conn.IsConn, Word.{TurnWord, word_number}, declared.conn.Conn.Conn}, xbar_plan.specs.Tables.Tables, xbar_office.specs.Legal.after}
+use Rattle.{xbar_jobs.specs.Office.{ShowsOffice, office}, xbar_moves.{specs.{Exchange.{Exchange, Work}, declared.kind.Kind.Kind}, proofs.Records.after_same}}
+use Rattle.xbar_fabric.specs.{Meetings.{AreWordsAfter, MarkerHasLearned, MarkersHaveMet, IsFreeConn, FabricIsShut}, Views.entered}
+use Rattle.xbar_fabric.proofs.Offices.{Order, begins_entered, is_history, is_lawful, length-entered, length-made, marker_made, office_of, own_same}
+use Rattle.xbar_fabric.proofs.{Offices.turned_entered, Steps.desk_at}
 use Rattle.turns.specs.World as worlds
-use Rattle.turns.specs.World.{World}
 use Rattle.desks.specs.Met as desks
-use Rattle.xbar_equip.specs.Conn.{IsConn}
-use Rattle.xbar_equip.specs.Word.{TurnWord, word_number}
-use Rattle.xbar_equip.specs.declared.conn.Conn.{Conn}
-use Rattle.xbar_plan.specs.Tables.{Tables}
-use Rattle.xbar_office.specs.Legal.{after}
-use Rattle.xbar_jobs.specs.Office.{ShowsOffice, office}
-use Rattle.xbar_moves.specs.Exchange.{Exchange, Work}
-use Rattle.xbar_moves.specs.declared.kind.Kind.{Kind}
-use Rattle.xbar_moves.proofs.Records.{after_same}
-use Rattle.xbar_fabric.specs.Meetings.{AreWordsAfter, MarkerHasLearned, MarkersHaveMet, IsFreeConn, FabricIsShut}
-use Rattle.xbar_fabric.specs.Views.{entered}
-use Rattle.xbar_fabric.proofs.Offices.{Order, begins_entered, is_history, is_lawful, length-entered, length-made, marker_made, office_of, own_same, turned_entered}
-use Rattle.xbar_fabric.proofs.Steps.{desk_at}
 
 module _ (plan : Tables) where
   -- the set after an order is that after its records
   pub after_entered : (order : Order) → worlds.after (office plan) [] order ≡ after plan (map entered order)
   after_entered order = ap (worlds.after (office plan) []) (sym (turned_entered order)) ∙ after_same plan [] (map entered order)
 
-  pub have_met : (t u : TableId) (kind other_kind : Kind) (i j : ℕ) (w v w_after v_after : Work) (one other one_after other_after : Order) → desks.HaveMet (office plan) i j one other one_after other_after
-      → MarkersHaveMet (desk_at t plan kind i w one) (desk_at u plan other_kind j v other) (desk_at t plan kind i w_after one_after) (desk_at u plan other_kind j v_after other_after)
+  pub have_met : (t u : TableId) (kind other_kind : Kind) (i j : ℕ) (w v w_after v_after : Work) (one other one_after other_after : Order)
+      → desks.HaveMet (office plan) i j one other one_after other_after
+      → MarkersHaveMet (desk_at t plan kind i w one) (desk_at u plan other_kind j v other) (desk_at t plan kind i w_after one_after)
+      (desk_at u plan other_kind j v_after other_after)
   have_met t u kind other_kind i j w v w_after v_after one other one_after other_after met = record {
     history = is_history plan one_after (rw met.same met.legal);
     same = ap (map entered) (sym met.same);
@@ -36,7 +27,8 @@ module _ (plan : Tables) where
     other_mine = own_same j other other_after met.other_own;
   }
 
-  pub has_learned : (t : TableId) (kind : Kind) (k : ℕ) (work work_after : Work) (seen noted seen_after : Order) → desks.HasLearned (office plan) k seen noted seen_after
+  pub has_learned : (t : TableId) (kind : Kind) (k : ℕ) (work work_after : Work) (seen noted seen_after : Order)
+      → desks.HasLearned (office plan) k seen noted seen_after
       → MarkerHasLearned (desk_at t plan kind k work seen) (map entered noted) (desk_at t plan kind k work_after seen_after)
   has_learned t kind k work work_after seen noted seen_after learned = record {
     history = is_history plan seen_after learned.legal;
@@ -46,7 +38,8 @@ module _ (plan : Tables) where
   }
 
   pub words_after : (order : Order) (words : List ℕ) → length words ≡ 453 → AreWords words → slice_index words (word_number TurnWord) ≡ length order % 2 ^ 64
-      → (((conn : Conn) → IsConn conn → IsFreeConn words conn) → ShowsOffice plan words (worlds.after (office plan) [] order)) → AreWordsAfter plan (map entered order) words
+      → (((conn : Conn) → IsConn conn → IsFreeConn words conn) → ShowsOffice plan words (worlds.after (office plan) [] order))
+      → AreWordsAfter plan (map entered order) words
   words_after order words size fit counted shows = record {
     count = size;
     are_words = fit;
@@ -54,7 +47,8 @@ module _ (plan : Tables) where
     shows = λ free. subst (ShowsOffice plan words) (after_entered order) (shows free);
   }
 
-  pub is_shut : (t : TableId) (kind : Kind) (count k : ℕ) (work : Work) (seen : Order) (words : List ℕ) → desks.IsShut (office plan) count k work seen words → FabricIsShut count (desk_at t plan kind k work seen) words
+  pub is_shut : (t : TableId) (kind : Kind) (count k : ℕ) (work : Work) (seen : Order) (words : List ℕ) → desks.IsShut (office plan) count k work seen words
+      → FabricIsShut count (desk_at t plan kind k work seen) words
   is_shut t kind count k work seen words shut = record {
     office = e;
     agrees = record {

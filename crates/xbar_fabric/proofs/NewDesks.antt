@@ -1,13 +1,9 @@
 -- the desks of an opening, one more at a time
-use Rattle.std.proofs.Common.{refl, ◌≡◌, ℕ, zero, suc, true, ◌+◌, ◌<◌, List, [], ◌∷◌, ◌++◌, length, get_or, drop, drop-cons, sym, ap, subst, ◌∙◌, arith, append_assoc}
-use Rattle.std.specs.Prelude.{IfSome, slice_get}
+use Rattle.std.proofs.Common.{refl, ◌≡◌, ℕ, zero, suc, true, ◌+◌, ◌<◌, List, [], ◌∷◌, ◌++◌, length, get_or, drop, drop-cons, sym, ap, subst, ◌∙◌, arith}
+use Rattle.std.proofs.Common.{append_assoc, IfSome, slice_get}
+use Rattle.{xbar_plan.specs.Tables.Tables, xbar_moves.specs.{declared.kind.Kind.{Kind, TheVariants.Dial}, Exchange.is_idle}}
+use Rattle.xbar_fabric.specs.{Meetings.AreAllIdle, Views.{AreDesksOf, DeskView, FabricView, IsDeskOf, RoomDesk, new_desks, view_at}}
 use Rattle.desks.specs.Views as views
-use Rattle.xbar_plan.specs.Tables.{Tables}
-use Rattle.xbar_moves.specs.declared.kind.Kind.{Kind}
-use Rattle.xbar_moves.specs.declared.kind.Kind.TheVariants.{Dial}
-use Rattle.xbar_moves.specs.Exchange.{is_idle}
-use Rattle.xbar_fabric.specs.Meetings.{AreAllIdle}
-use Rattle.xbar_fabric.specs.Views.{AreDesksOf, DeskView, FabricView, IsDeskOf, RoomDesk, new_desks, view_at}
 
 -- the office's words as those of a room
 abbrev pub fabric_of : views.RoomView Tables → FabricView
@@ -25,7 +21,8 @@ later_new room n desk desks are j =
     let next : n + suc j ≡ n + 1 + j = omega arith in
     subst (λ (i : ℕ). IfSome (slice_get desks j) (λ (d : RoomDesk). d ≡ views.new_desk room i)) next (are (suc j))
 
-pub built_more : (room : views.RoomView Tables) (kinds : List Kind) (i : ℕ) (desk : RoomDesk) (all more : List DeskView) → i < length kinds → desk ≡ views.new_desk room i
+pub built_more : (room : views.RoomView Tables) (kinds : List Kind) (i : ℕ) (desk : RoomDesk) (all more : List DeskView) → i < length kinds
+    → desk ≡ views.new_desk room i
     → more ≡ all ++ view_at (get_or kinds i Dial) desk ∷ [] → all ++ new_desks (fabric_of room) i (drop i kinds) ≡ new_desks (fabric_of room) 0 kinds
     → more ++ new_desks (fabric_of room) (i + 1) (drop (i + 1) kinds) ≡ new_desks (fabric_of room) 0 kinds
 built_more room kinds i desk all more within new pushed built =
@@ -51,17 +48,21 @@ length-new_desks fabric n [] = refl
 length-new_desks fabric n (kind ∷ kinds) = ap suc (length-new_desks fabric (suc n) kinds)
 
 -- each at the place of its marker
-places : (fabric : FabricView) (n : ℕ) (kinds : List Kind) (k : ℕ) → IfSome (slice_get (new_desks fabric n kinds) k) (λ desk. IsDeskOf desk fabric × (desk.marker ≡ n + k) × (is_idle desk.work ≡ true))
+places : (fabric : FabricView) (n : ℕ) (kinds : List Kind) (k : ℕ)
+    → IfSome (slice_get (new_desks fabric n kinds) k) (λ desk. IsDeskOf desk fabric × (desk.marker ≡ n + k) × (is_idle desk.work ≡ true))
 places fabric n [] k = tt
 places fabric n (kind ∷ kinds) zero = (record { table_is = refl; plan_is = refl }, omega arith, refl)
 places fabric n (kind ∷ kinds) (suc k) =
     let next : suc n + k ≡ n + suc k = omega arith in
-    subst (λ (m : ℕ). IfSome (slice_get (new_desks fabric (suc n) kinds) k) (λ desk. IsDeskOf desk fabric × (desk.marker ≡ m) × (is_idle desk.work ≡ true))) next (places fabric (suc n) kinds k)
+    subst (λ (m : ℕ). IfSome (slice_get (new_desks fabric (suc n) kinds) k) (λ desk. IsDeskOf desk fabric × (desk.marker ≡ m) × (is_idle desk.work ≡ true)))
+    next (places fabric (suc n) kinds k)
 
-pub new_are_idle : (fabric : FabricView) (kinds : List Kind) (desks : List DeskView) → desks ≡ new_desks fabric 0 kinds → fabric.count ≡ length kinds → AreAllIdle desks fabric
+pub new_are_idle : (fabric : FabricView) (kinds : List Kind) (desks : List DeskView) → desks ≡ new_desks fabric 0 kinds → fabric.count ≡ length kinds
+    → AreAllIdle desks fabric
 new_are_idle fabric kinds desks are count = record {
   count = ap (length {A = DeskView}) are ∙ length-new_desks fabric 0 kinds ∙ sym count;
   each = λ k.
       let first : 0 + k ≡ k = omega arith in
-      rw are (subst (λ (m : ℕ). IfSome (slice_get (new_desks fabric 0 kinds) k) (λ desk. IsDeskOf desk fabric × (desk.marker ≡ m) × (is_idle desk.work ≡ true))) first (places fabric 0 kinds k));
+      rw are (subst (λ (m : ℕ). IfSome (slice_get (new_desks fabric 0 kinds) k) (λ desk. IsDeskOf desk fabric × (desk.marker ≡ m) × (is_idle desk.work ≡ true)))
+      first (places fabric 0 kinds k));
 }

@@ -1,25 +1,15 @@
 -- a world of the office's jobs as an office, and its turns as records
-use Rattle.std.proofs.Common.{◌≡◌, ℕ, zero, suc, Bool, true, false, List, [], ◌∷◌, ◌++◌, length, map, refl, sym, ◌∙◌, ap, subst, arith}
-use Rattle.std.specs.Prelude.{◌==◌, Some, if◌then◌else◌, slice_get}
+use Rattle.std.proofs.Common.{◌≡◌, ℕ, zero, suc, Bool, true, false, List, [], ◌∷◌, ◌++◌, length, map, refl, sym, ◌∙◌, ap, subst, arith, ◌==◌, Some}
+use Rattle.std.proofs.Common.{if◌then◌else◌, slice_get}
 use mathlib.Core.Option.{some, some-injective, some-ne-none}
 use lib.ListN.{get_elem?}
+use Rattle.{turns.specs.{Law.Lawful, World.World}, desks.specs.Parts.Begins, xbar_plan.specs.Tables.Tables}
+use Rattle.{xbar_office.specs.declared.{job.Job.Job, reply.{Record.Record, Reply.Reply}}, xbar_jobs.specs.Office.office}
+use Rattle.xbar_moves.specs.{Exchange.{Exchange, IsLawfulExchange, Marker, Work, turned, world}, declared.kind.Kind.Kind}
+use Rattle.{xbar_moves.proofs.{Markers.works, Records.{jobs_legal, replies_legal, turns_legal}}, xbar_fabric.specs.{Histories.IsHistory, Views.{entered, own}}}
 use Rattle.turns.specs.Law as law
-use Rattle.turns.specs.Law.{Lawful}
 use Rattle.turns.specs.World as worlds
-use Rattle.turns.specs.World.{World}
 use Rattle.desks.specs.Parts as desks
-use Rattle.desks.specs.Parts.{Begins}
-use Rattle.xbar_plan.specs.Tables.{Tables}
-use Rattle.xbar_office.specs.declared.job.Job.{Job}
-use Rattle.xbar_office.specs.declared.reply.Record.{Record}
-use Rattle.xbar_office.specs.declared.reply.Reply.{Reply}
-use Rattle.xbar_jobs.specs.Office.{office}
-use Rattle.xbar_moves.specs.Exchange.{Exchange, IsLawfulExchange, Marker, Work, turned, world}
-use Rattle.xbar_moves.specs.declared.kind.Kind.{Kind}
-use Rattle.xbar_moves.proofs.Markers.{works}
-use Rattle.xbar_moves.proofs.Records.{jobs_legal, replies_legal, turns_legal}
-use Rattle.xbar_fabric.specs.Histories.{IsHistory}
-use Rattle.xbar_fabric.specs.Views.{entered, own}
 
 abbrev pub Order : Type 0
 Order = List (worlds.Record Job Reply)
@@ -53,7 +43,9 @@ begins_entered seen order begins = (map entered begins.0, ap (map entered) begin
 pub own_entered : (k : ℕ) (order : Order) → own k (map entered order) ≡ map entered (desks.own k order)
 own_entered k [] = refl
 own_entered k (r ∷ order) = by (r.actor == k) (own_entered k order) where
-  by : (mine : Bool) → own k (map entered order) ≡ map entered (desks.own k order) → (if mine then entered r ∷ own k (map entered order) else own k (map entered order)) ≡ map entered (if mine then r ∷ desks.own k order else desks.own k order)
+  by : (mine : Bool) → own k (map entered order) ≡ map entered (desks.own k order)
+      → (if mine then entered r ∷ own k (map entered order) else own k (map entered order))
+      ≡ map entered (if mine then r ∷ desks.own k order else desks.own k order)
   by true later = ap (λ (all : List Record). entered r ∷ all) later
   by false later = later
 
@@ -92,7 +84,8 @@ module _ (plan : Tables) where
   length-made kind [] = refl
   length-made kind (work ∷ actors) = ap suc (length-made kind actors)
 
-  pub marker_made : (kind : Kind) (actors : List Work) (k : ℕ) (work : Work) → get_elem? actors k ≡ some work → slice_get (map (marker_at kind) actors) k ≡ Some (marker_at kind work)
+  pub marker_made : (kind : Kind) (actors : List Work) (k : ℕ) (work : Work) → get_elem? actors k ≡ some work
+      → slice_get (map (marker_at kind) actors) k ≡ Some (marker_at kind work)
   marker_made kind [] k work there = absurd (some-ne-none work (sym there))
   marker_made kind (x ∷ actors) zero work there = ap (λ (w : Work). Some (marker_at kind w)) (some-injective x work there)
   marker_made kind (x ∷ actors) (suc k) work there = marker_made kind actors k work there

@@ -1,28 +1,14 @@
 -- a marker's own records after its step: those before it, and that of its turn, if the step was one
-use Rattle.std.proofs.Common.{◌≡◌, ℕ, Bool, true, false, List, [], ◌∷◌, ◌++◌, append-nil, refl, sym, ◌∙◌, ap, subst}
-use Rattle.std.specs.Prelude.{◌==◌, Option, Some, None, Result, Ok, Err, if◌then◌else◌, option_map, unwrap_or}
-use Rattle.std.proofs.lemmas.Bool.{eq-eqb}
+use Rattle.std.proofs.Common.{◌≡◌, ℕ, Bool, true, false, List, [], ◌∷◌, ◌++◌, append-nil, refl, sym, ◌∙◌, ap, subst, ◌==◌, Option, Some, None, Result, Ok, Err}
+use Rattle.std.proofs.Common.{if◌then◌else◌, option_map, unwrap_or, eq-eqb}
 use Rattle.turns.specs.Attempt.{act, act_in, answer_to, change, changed, giving_back, goes_on, operated, rest_of, turn_in, unless_denied}
-use Rattle.turns.specs.declared.answer.Answer.{Answer}
-use Rattle.turns.specs.declared.answer.Answer.TheVariants.{Asked, Seized, Held, Preferred, Again, Value, Turn, Done}
-use Rattle.turns.specs.declared.judgement.Judgement.{Judgement}
+use Rattle.turns.specs.declared.{answer.Answer.{Answer, TheVariants.{Asked, Seized, Held, Preferred, Again, Value, Turn, Done}}, judgement.Judgement.Judgement}
+use Rattle.turns.specs.declared.{phase.Phase.TheVariants.{Requests, Seizes, Tests, Turns, Withdraws, GivesBack, Operates}, wanted.Wanted.Wanted}
+use Rattle.{turns.specs.declared.wanted.Wanted.TheVariants.{Seize, Test}, xbar_equip.specs.declared.conn.Conn.Conn, xbar_plan.specs.Tables.Tables}
+use Rattle.{xbar_office.specs.declared.reply.{Record.Record, Reply.Reply}, xbar_jobs.specs.{Attempt.{Attempt, Phase}, Office.office}}
+use Rattle.{xbar_jobs.{specs.declared.{decision.Decision.Decision, effect.Effect.Effect}, proofs.StepActs.act_answer}, xbar_moves.specs.AtWork.answer_to_step}
+use Rattle.{xbar_moves.specs.Moves.{added_record, own_record, record_of}, xbar_fabric.{specs.Views.own, proofs.Finishing.{closed_done, freed_done}}}
 use Rattle.turns.specs.declared.judgement.Judgement.TheVariants as judgement
-use Rattle.turns.specs.declared.phase.Phase.TheVariants.{Requests, Seizes, Tests, Turns, Withdraws, GivesBack, Operates}
-use Rattle.turns.specs.declared.wanted.Wanted.{Wanted}
-use Rattle.turns.specs.declared.wanted.Wanted.TheVariants.{Seize, Test}
-use Rattle.xbar_equip.specs.declared.conn.Conn.{Conn}
-use Rattle.xbar_plan.specs.Tables.{Tables}
-use Rattle.xbar_office.specs.declared.reply.Record.{Record}
-use Rattle.xbar_office.specs.declared.reply.Reply.{Reply}
-use Rattle.xbar_jobs.specs.Attempt.{Attempt, Phase}
-use Rattle.xbar_jobs.specs.Office.{office}
-use Rattle.xbar_jobs.specs.declared.decision.Decision.{Decision}
-use Rattle.xbar_jobs.specs.declared.effect.Effect.{Effect}
-use Rattle.xbar_jobs.proofs.StepActs.{act_answer}
-use Rattle.xbar_moves.specs.AtWork.{answer_to_step}
-use Rattle.xbar_moves.specs.Moves.{added_record, own_record, record_of}
-use Rattle.xbar_fabric.specs.Views.{own}
-use Rattle.xbar_fabric.proofs.Finishing.{closed_done, freed_done}
 
 -- the own records of two lists, one after the other
 pub own_append : (k : ℕ) (records more : List Record) → own k (records ++ more) ≡ own k records ++ own k more
@@ -72,7 +58,8 @@ module _ (plan : Tables) (k number : ℕ) where
   asked_grows a conn word (judgement.Held holder) = refl
   asked_grows a conn word (judgement.Preferred other) = refl
 
-  seized_grows : (a : Attempt) (conn : Conn) (expected word : ℕ) (same : Bool) (j : Judgement) → Grows a (Seizes conn expected) (if same then Seized else unless_denied (Again word) j)
+  seized_grows : (a : Attempt) (conn : Conn) (expected word : ℕ) (same : Bool) (j : Judgement)
+      → Grows a (Seizes conn expected) (if same then Seized else unless_denied (Again word) j)
   seized_grows a conn expected word true j = goes_bare (record a { held = a.held ++ conn ∷ [] }) _
   seized_grows a conn expected word false judgement.Free = refl
   seized_grows a conn expected word false (judgement.Held holder) = refl
@@ -95,7 +82,8 @@ module _ (plan : Tables) (k number : ℕ) where
   phase_grows found a (Operates turn) at = subst (Grows a (Operates turn)) (sym (closed_done plan k found a.effects a.held)) (done_grows a turn at)
 
   -- after its step the attempt has the record that it had, and the one that the step adds
-  pub step_grows : (words : List ℕ) (a : Attempt) → own_record k number (change (office plan) a (answer_to_step k words a)) ≡ own_record k number a ++ added_record k number a (answer_to_step k words a)
+  pub step_grows : (words : List ℕ) (a : Attempt)
+      → own_record k number (change (office plan) a (answer_to_step k words a)) ≡ own_record k number a ++ added_record k number a (answer_to_step k words a)
   step_grows words a = subst (Grows a a.phase) (sym (act_answer plan k (act a) _)) (phase_grows _ a a.phase refl)
 
   freed_job : (a : Attempt) (held : List Conn) → (giving_back (office plan) a held).job ≡ a.job

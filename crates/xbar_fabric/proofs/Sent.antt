@@ -1,7 +1,7 @@
 -- a desk may go to any thread: it has a seat, an attempt, and a snapshot of its plan, which has no bytes
+use denote.RattleType.{RattleType}
 use denote.Param as param
 use denote.Param.Send as send
-use denote.RattleType.{RattleType}
 use denote.Struct.Declared as declared
 use Rattle.desk_attempts.proofs.speculation.Speculation.TheSendSync as attempt_sent
 use Rattle.desk_attempts.specs.contracts.speculation.Speculation as attempt
@@ -17,9 +17,11 @@ use Rattle.xbar_equip.specs.contracts.conn.ConnDefault.TheImpl as conn_default
 use Rattle.xbar_equip.specs.contracts.conn.ConnPartialEq.TheImpl as conn_equal
 use Rattle.xbar_fabric.specs.contracts.desk.Desk as desk
 use Rattle.xbar_fabric.specs.contracts.desk.Desk.TheInside as inside
-use Rattle.xbar_fabric.specs.contracts.office.SharedOffices as shared
-use Rattle.xbar_fabric.specs.contracts.office.SharedOfficesOnWords4219.TheImpl as on_words
-use Rattle.xbar_fabric.specs.contracts.office.SharedOfficesScripts4219.TheImpl as scripts
+use Rattle.xbar_fabric.specs.contracts.office.OfficeRoom as room
+use Rattle.xbar_fabric.specs.contracts.office.OfficesInRoomOfficeRoomREADINGSHELD.TheImpl as in_room
+use Rattle.xbar_jobs.specs.contracts.offices.Offices as offices
+use Rattle.xbar_jobs.specs.contracts.offices.OfficesOnWordsREADINGSHELD.TheImpl as on_words
+use Rattle.xbar_jobs.specs.contracts.offices.OfficesScriptsREADINGSHELD.TheImpl as scripts
 use Rattle.xbar_jobs.proofs.decided.Decided.TheSendSync as decided_sent
 use Rattle.xbar_jobs.proofs.walk_progress.WalkProgress.TheSendSync as progress_sent
 use Rattle.xbar_jobs.specs.contracts.decided.Decided as decided
@@ -37,18 +39,20 @@ abbrev attempt_row : RattleType
 attempt_row = attempt.the_row conn.the_row job.the_row decided.the_row point.the_row (param.number 42) (param.number 19)
 
 attempt_send : send.IsSend attempt_row
-attempt_send = attempt_sent.the_send conn.the_row job.the_row decided.the_row point.the_row (param.number 42) (param.number 19) conn_sent.the_send job_sent.the_send decided_sent.the_send progress_sent.the_send
+attempt_send =
+    attempt_sent.the_send conn.the_row job.the_row decided.the_row point.the_row (param.number 42) (param.number 19) conn_sent.the_send job_sent.the_send
+    decided_sent.the_send progress_sent.the_send
 
 pub desk_send : send.IsSend desk.the_row
 desk_send =
     send.view_send inside.the_row _ _ _ _
     (send.recorded_send inside.the_field.row _ _ inside.the_type.to_one
     (send.struct_send (declared.shape inside.the_type) (
-      below.the_send (attempts.the_row shared.the_row (param.number 42) (param.number 19)) plan.the_row (snapshot.the_row plan.the_row) conn.the_row
+      below.the_send (attempts.the_row offices.the_row room.the_row (param.number 42) (param.number 19)) plan.the_row (snapshot.the_row plan.the_row) conn.the_row
           job.the_row reply.the_row effect.the_row attempt_row
-          (jobs.ghosts shared.the_row (param.number 42) (param.number 19) (snapshot.the_row plan.the_row) plan.the_row conn.the_row job.the_row
-          reply.the_row effect.the_row decided.the_row point.the_row on_words.ghosts jobs.no_dict scripts.ghosts jobs.no_dict
-          (copies.ghosts conn.the_row) jobs.no_dict conn_default.ghosts jobs.no_dict conn_equal.ghosts jobs.no_dict
+          (jobs.ghosts offices.the_row room.the_row (param.number 42) (param.number 19) (snapshot.the_row plan.the_row) plan.the_row conn.the_row
+          job.the_row reply.the_row effect.the_row decided.the_row point.the_row in_room.ghosts jobs.no_dict on_words.ghosts jobs.no_dict
+          scripts.ghosts jobs.no_dict (copies.ghosts conn.the_row) jobs.no_dict conn_default.ghosts jobs.no_dict conn_equal.ghosts jobs.no_dict
           (copies.ghosts job.the_row) jobs.no_dict (copies.ghosts effect.the_row) jobs.no_dict jobs.no_dict jobs.no_dict jobs.no_dict jobs.no_dict)
           snapshot_send attempt_send,
       (kind_sent.the_field_send, tt),

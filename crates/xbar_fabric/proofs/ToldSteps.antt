@@ -1,44 +1,21 @@
 -- what an advance promises, by what the desk below it reports
-use Rattle.std.proofs.Common.{◌≡◌, ◌≢◌, ℕ, ◌<◌, ◌^◌, Bool, true, false, List, [], ◌∷◌, ◌++◌, length, length-append, map, refl, sym, ◌∙◌, ap, inl, inr, subst, arith, append-nil, append_assoc}
-use Rattle.std.specs.Prelude.{Option, Some, None, option_map, option_to_list, slice_get, unwrap_or}
+use Rattle.std.proofs.Common.{◌≡◌, ◌≢◌, ℕ, ◌<◌, ◌^◌, Bool, true, false, List, [], ◌∷◌, ◌++◌, length, length-append, map, refl, sym, ◌∙◌, ap, inl, inr, subst}
+use Rattle.std.proofs.Common.{arith, append-nil, append_assoc, Option, Some, None, option_map, option_to_list, slice_get, unwrap_or}
 use mathlib.Core.Option.{some}
 use lib.ListN.{get_elem?}
-use Rattle.atomic_table.specs.Seated.{TableId}
-use Rattle.turns.specs.Among.{IsIn}
-use Rattle.turns.specs.Attempt.{IsValidIn, act, change, turn_in}
-use Rattle.turns.specs.Runs.{is_available, is_finished}
+use Rattle.{atomic_table.specs.Seated.TableId, turns.specs.{Among.IsIn, Attempt.{IsValidIn, act, change, turn_in}, Runs.{is_available, is_finished}}}
+use Rattle.turns.specs.{World.{Idle, Does, added_in}, declared.answer.Answer.{Answer, TheVariants.{Asked, Seized, Held, Preferred, Again, Value, Turn, Done}}}
+use Rattle.{turns.{specs.declared.phase.Phase.TheVariants.{Turns, Operates}, proofs.Runs.rest_is}, desks.specs.{Kept.number_found, Parts.Begins}}
+use Rattle.{xbar_equip.specs.declared.conn.Conn.Conn, xbar_plan.specs.{Tables.Tables, Lawful.IsLawful}, xbar_office.specs.declared.job.Job.Job}
+use Rattle.{xbar_office.specs.declared.reply.{Record.Record, Reply.Reply}, xbar_jobs.{specs.{Attempt.Attempt, Office.office}, proofs.OfficeSystem.office_is}}
+use Rattle.xbar_moves.specs.{Exchange.{Work, is_idle, on_job}, Moves.{event_at_step, event_of, finished, moved_on, record_of, refused_by}}
+use Rattle.xbar_moves.{specs.declared.{event.Event.Event, kind.Kind.Kind}, proofs.{FinishedJobs.{finished_at, finishes}, Steps.step_adds}}
+use Rattle.xbar_fabric.{specs.{Advances.MarkerHasAdvanced, Histories.IsReportedRecord, Views.{DeskView, entered}}, proofs.Finishing.{decides_none, ends_done}}
+use Rattle.xbar_fabric.proofs.{Offices.{Order, begins_entered, own_entered}, Steps.{at, came, desk_at, e, has_stepped, lawful, seen_is}}
 use Rattle.turns.specs.World as worlds
-use Rattle.turns.specs.World.{Idle, Does, added_in}
-use Rattle.turns.proofs.Runs.{rest_is}
-use Rattle.turns.specs.declared.answer.Answer.{Answer}
-use Rattle.turns.specs.declared.answer.Answer.TheVariants.{Asked, Seized, Held, Preferred, Again, Value, Turn, Done}
-use Rattle.turns.specs.declared.phase.Phase.TheVariants.{Turns, Operates}
 use Rattle.desks.specs.Desks as desks
-use Rattle.desks.specs.Kept.{number_found}
 use Rattle.desks.specs.Parts as parts
-use Rattle.desks.specs.Parts.{Begins}
-use Rattle.xbar_equip.specs.declared.conn.Conn.{Conn}
-use Rattle.xbar_plan.specs.Tables.{Tables}
-use Rattle.xbar_plan.specs.Lawful.{IsLawful}
-use Rattle.xbar_office.specs.declared.job.Job.{Job}
-use Rattle.xbar_office.specs.declared.reply.Record.{Record}
-use Rattle.xbar_office.specs.declared.reply.Reply.{Reply}
-use Rattle.xbar_jobs.specs.Attempt.{Attempt}
-use Rattle.xbar_jobs.specs.Office.{office}
-use Rattle.xbar_jobs.proofs.OfficeSystem.{office_is}
-use Rattle.xbar_moves.specs.Exchange.{Work, is_idle, on_job}
-use Rattle.xbar_moves.specs.Moves.{event_at_step, event_of, finished, moved_on, record_of, refused_by}
-use Rattle.xbar_moves.specs.declared.event.Event.{Event}
 use Rattle.xbar_moves.specs.declared.event.Event.TheVariants as event
-use Rattle.xbar_moves.specs.declared.kind.Kind.{Kind}
-use Rattle.xbar_moves.proofs.FinishedJobs.{finished_at, finishes}
-use Rattle.xbar_moves.proofs.Steps.{step_adds}
-use Rattle.xbar_fabric.specs.Advances.{MarkerHasAdvanced}
-use Rattle.xbar_fabric.specs.Histories.{IsReportedRecord}
-use Rattle.xbar_fabric.specs.Views.{DeskView, entered}
-use Rattle.xbar_fabric.proofs.Finishing.{decides_none, ends_done}
-use Rattle.xbar_fabric.proofs.Offices.{Order, begins_entered, own_entered}
-use Rattle.xbar_fabric.proofs.Steps.{at, came, desk_at, e, has_stepped, lawful, seen_is}
 
 -- an actor is available if its marker is idle
 pub free_idle : (plan : Tables) (work : Work) → is_idle work ≡ is_available (office plan) work
@@ -58,7 +35,8 @@ on_goes : (k number : ℕ) (after : Attempt) (r : Record) (rests : Bool) → mov
 on_goes k number after r true is = refl
 on_goes k number after r false is = absurd cc
 
-pub finished_rests : (k number : ℕ) (a after : Attempt) (r : Record) (answer : Answer) → event_of k number a after answer ≡ event.Finished r → is_finished (act after) ≡ true
+pub finished_rests : (k number : ℕ) (a after : Attempt) (r : Record) (answer : Answer) → event_of k number a after answer ≡ event.Finished r
+    → is_finished (act after) ≡ true
 finished_rests k number a after r (Held holder) is = absurd (refusal_goes holder _ r is)
 finished_rests k number a after r (Preferred other) is = absurd cc
 finished_rests k number a after r (Asked word) is = absurd cc
@@ -74,7 +52,8 @@ told_at_end : (k number turn : ℕ) (after : Attempt) (reply : Reply) → after.
 told_at_end k number turn after reply phase replied rests =
     ap (moved_on k number after) rests
     ∙ ap (λ p. finished (unwrap_or (option_map (λ t. record_of t k number after) (turn_in p)) [])) phase
-    ∙ ap (λ (its : Option Reply). finished (option_to_list (option_map (λ x. record { turn = turn; marker = k; job_no = number; job = after.job; reply = x }) its))) replied
+    ∙ ap (λ (its : Option Reply). finished (option_to_list
+    (option_map (λ x. record { turn = turn; marker = k; job_no = number; job = after.job; reply = x }) its))) replied
 
 -- a record among the own turns is among the own records
 own_told : (order : Order) (r : worlds.Record Job Reply) → IsIn r order → IsIn (entered r) (map entered order)
@@ -117,10 +96,12 @@ module _ (plan : Tables) (table : TableId) (kind : Kind) (k : ℕ) (before after
     pub grows : Begins (map entered seen) (map entered seen_after)
     grows =
         let added = added_in (office plan) k step.number step.attempt step.attempt.phase (number_found (office plan) step.world step.attempt) in
-        begins_entered seen seen_after (step.begins.0 ++ added, step.seen_is ∙ ap (λ (l : Order). l ++ added) step.begins.1 ∙ append_assoc seen step.begins.0 added)
+        begins_entered seen seen_after
+        (step.begins.0 ++ added, step.seen_is ∙ ap (λ (l : Order). l ++ added) step.begins.1 ∙ append_assoc seen step.begins.0 added)
 
     -- a step after which something is left of the job
-    unfoldable pub moves : (what : Event) → what ≡ event_of k step.number step.attempt next_attempt answer → is_available (office plan) after ≡ false → MarkerHasAdvanced old new what
+    unfoldable pub moves : (what : Event) → what ≡ event_of k step.number step.attempt next_attempt answer → is_available (office plan) after ≡ false
+        → MarkerHasAdvanced old new what
     moves what is goes = record {
       idle = λ idle. absurd (never_idle idle);
       stepped = λ _. has_stepped plan kind k before after seen seen_after answer step table what is;
@@ -136,7 +117,8 @@ module _ (plan : Tables) (table : TableId) (kind : Kind) (k : ℕ) (before after
     }
 
     -- the last step of the job, which reports this
-    module _ (reported : worlds.Record Job Reply) (laws : IsLawful plan) (ends : is_available (office plan) after ≡ true) (is_told : desks.IsReported (office plan) k after seen_after reported) where
+    module _ (reported : worlds.Record Job Reply) (laws : IsLawful plan) (ends : is_available (office plan) after ≡ true)
+        (is_told : desks.IsReported (office plan) k after seen_after reported) where
       same : (step.number ≡ reported.number) × (next_attempt ≡ is_told.attempt)
       same = does_same step.number reported.number next_attempt is_told.attempt (sym after_is ∙ is_told.after_is)
 
@@ -147,12 +129,15 @@ module _ (plan : Tables) (table : TableId) (kind : Kind) (k : ℕ) (before after
       holds_some turns =
           let there = subst (λ (m : Work). get_elem? step.world.actors k ≡ some m) step.before_is step.there in
           let sound = step.lawful.sound k step.number step.attempt there in
-          decides_none plan step.attempt _ ((office_is plan laws).first step.attempt.job sound.job) (subst (IsValidIn (office plan) step.attempt) turns sound.valid)
+          decides_none plan step.attempt _ ((office_is plan laws).first step.attempt.job sound.job)
+          (subst (IsValidIn (office plan) step.attempt) turns sound.valid)
 
       answer_done : answer ≡ Done
       answer_done =
           let found = number_found (office plan) step.world step.attempt in
-          step.answer_is ∙ ends_done plan k found step.attempt holds_some (subst (λ (t : Answer). is_finished (act (change (office plan) step.attempt t)) ≡ true) step.answer_is rests_now)
+          step.answer_is
+          ∙ ends_done plan k found step.attempt holds_some
+          (subst (λ (t : Answer). is_finished (act (change (office plan) step.attempt t)) ≡ true) step.answer_is rests_now)
 
       pub what_is : event.Finished (entered reported) ≡ event_of k step.number step.attempt next_attempt answer
       what_is =
@@ -171,7 +156,9 @@ module _ (plan : Tables) (table : TableId) (kind : Kind) (k : ℕ) (before after
       shorter : length new.seen < 2 ^ 64 → length (e plan kind k before after seen seen_after answer step).records < 2 ^ 64
       shorter few =
           let office_at = e plan kind k before after seen seen_after answer step in
-          let long = ap (length {A = Record}) (seen_is plan kind k before after seen seen_after answer step ∙ step_adds plan office_at k step.number step.attempt (at plan kind k before after seen seen_after answer step)) in
+          let long =
+          ap (length {A = Record}) (seen_is plan kind k before after seen seen_after answer step
+          ∙ step_adds plan office_at k step.number step.attempt (at plan kind k before after seen seen_after answer step)) in
           omega (arith, few, simp length-append at long)
 
       pub tells : IsReportedRecord old new (entered reported)

@@ -1,11 +1,7 @@
 -- the word of a connector that no marker holds or requests is 0
-use Rattle.std.proofs.Common.{◌≡◌, ℕ, zero, suc, ◌+◌, ◌-◌, ◌/◌, ◌%◌, ◌<◌, ◌≤◌, ◌⊎◌, inl, inr, false, ◌∙◌, ap, subst, arith}
-use Rattle.std.proofs.Math.Nat.{eq-zero-or-pos}
-use Rattle.std.specs.Prelude.{◌==◌}
-use Rattle.std.specs.Int.{bit_at, trailing_zeros, w64}
-use Rattle.std.proofs.lemmas.Nat.Bits.{bit_at-suc, bit_at-trailing_zeros, bit_at_lowest}
-use Rattle.turns.specs.Sharing.{IsUnused}
-use Rattle.turns.specs.Sharings.{preferring}
+use Rattle.std.proofs.Common.{◌≡◌, ℕ, zero, suc, ◌+◌, ◌-◌, ◌/◌, ◌%◌, ◌<◌, ◌≤◌, inl, inr, false, ◌∙◌, ap, subst, arith, eq-zero-or-pos, ◌==◌, w64}
+use Rattle.std.{specs.Int.{bit_at, trailing_zeros}, proofs.lemmas.Nat.Bits.{bit_at-suc, bit_at-trailing_zeros, bit_at_lowest}}
+use Rattle.turns.specs.{Sharing.IsUnused, Sharings.preferring}
 
 -- with no holder, none of the lowest six bits is set
 holder_bit : (word i : ℕ) → word % 64 ≡ 0 → i < 6 → bit_at word i ≡ 0

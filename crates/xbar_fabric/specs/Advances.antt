@@ -9,7 +9,7 @@ use Rattle.xbar_office.specs.declared.reply.Record.{Record}
 use Rattle.xbar_jobs.specs.Jobs.{first_conn}
 use Rattle.xbar_moves.specs.Exchange.{Exchange, Work, is_idle, on_job}
 use Rattle.xbar_moves.specs.Moves as moves
-use Rattle.xbar_moves.specs.Moves.{after_step, event_at_step, work_anew}
+use Rattle.xbar_moves.specs.Moves.{after_step, event_at_step, restarted_work}
 use Rattle.xbar_moves.specs.declared.event.Event.{Event}
 use Rattle.xbar_moves.specs.declared.event.Event.TheVariants.{Idle, Finished}
 use Rattle.xbar_fabric.specs.Histories.{IsReportedRecord}
@@ -77,5 +77,5 @@ at_beginning work =
 pub record MarkerHasGivenBack (before after : DeskView) : Type 0 where
   pub count : ℕ
   pub few : count ≤ on_job 0 (λ number a. 1 + length a.held) before.work
-  pub made : MarkerHasMade count (record before { work = work_anew before.plan before.work }) after
+  pub made : MarkerHasMade count (record before { work = restarted_work before.plan before.work }) after
   pub begins : after.work ≡ at_beginning before.work

@@ -1,9 +1,9 @@
--- Where a fabric keeps the office's words: the frames' words side by side, and then each group's
+-- Where a room keeps the office's words: the frames' words side by side, and then each group's
 -- word, each connector's and the turn word, each on cache lines of its own.
 use Rattle.std.proofs.Common.{◌≡◌, ◌∙◌, sym, ap, refl, ℕ, ◌+◌, ◌-◌, ◌*◌, ◌/◌, ◌<◌, ◌≤◌, Bool, true, false, cond, nat_lt, arith}
 use Rattle.std.specs.Prelude.{if◌then◌else◌}
 use Rattle.std.proofs.lemmas.Bool.Decides.{nat_tests}
-use Rattle.desks.specs.Places.{ArePlaces, Places}
+use Rattle.turns.specs.Places.{ArePlaces, Places}
 use Rattle.xbar_equip.specs.Word.{word_count}
 
 -- the place of a word, by its number

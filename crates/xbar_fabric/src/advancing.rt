@@ -12,10 +12,9 @@ ghost use Rattle.xbar_fabric.specs.Views.{IsDeskOf, entered};
 
 use crate::desk::Desk;
 use crate::fabric::Fabric;
-use crate::office::SharedOffices;
 use desk_attempts::asked;
 use desks::{JobRecord, Progress, Watch};
-use xbar_jobs::Answer;
+use xbar_jobs::{Answer, HELD, Offices, READINGS};
 use xbar_moves::{Event, Given};
 use xbar_office::{Job, Record, Reply};
 
@@ -86,7 +85,7 @@ impl Desk {
         let Some((_, program)) = self.desk.doing() else {
             return Event::Idle;
         };
-        let asked = asked::<SharedOffices, 42, 19>(program);
+        let asked = asked::<Offices, READINGS, HELD>(program);
         match self.desk.advance(&fabric.room, fabric.plan) {
             Progress::Idle => Event::Idle,
             Progress::Moved(answer) => Event::of_answer(asked, answer),

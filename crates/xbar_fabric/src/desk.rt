@@ -8,9 +8,10 @@ ghost use Rattle.xbar_moves.specs.Moves.{given_by, refusal_of};
 ghost use Rattle.xbar_fabric.specs.Histories.{IsHistory};
 ghost use Rattle.xbar_fabric.specs.Views.{marker_of};
 
-use crate::office::{Office, SharedOffices};
+use crate::office::Office;
 use desk_attempts::turn;
 use std::marker::Model;
+use xbar_jobs::{HELD, Offices, READINGS};
 use xbar_moves::{AssignFault, Given, Kind};
 use xbar_office::Job;
 use xbar_office::laws::job_is_in_range;
@@ -77,7 +78,7 @@ impl Desk {
         ensures { result ≡ given_by self.now.work }
     {
         let is_past_turn = match self.desk.doing() {
-            Some((_, program)) => turn::<SharedOffices, 42, 19>(program).is_some(),
+            Some((_, program)) => turn::<Offices, READINGS, HELD>(program).is_some(),
             None => false,
         };
         Given::of(self.is_idle(), is_past_turn)

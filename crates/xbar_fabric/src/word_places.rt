@@ -1,4 +1,4 @@
-//! Where a fabric keeps the office's words.
+//! Where a room keeps the office's words.
 
 ghost use Rattle.std.specs.Prelude.{◌≡◌, ◌<◌};
 ghost use Rattle.xbar_equip.specs.Word.{word_count};

@@ -1,8 +1,6 @@
 -- the bits of a word once one of them is cleared
-use Rattle.std.proofs.Common.{◌≡◌, ◌≢◌, ℕ, ◌-◌, ◌^◌, ◌<◌, ◌≤◌, ◌∙◌, ap, arith, bit_and, pow_mono}
-use Rattle.std.specs.Prelude.{min}
-use Rattle.std.specs.Int.{bit_at, w64}
-use Rattle.std.proofs.lemmas.Nat.Bits.{bit_at_above, bit_at_and, bit_at-lt, bit_at_not, bit_at-pow_other, bit_at-pow_same}
+use Rattle.std.proofs.Common.{◌≡◌, ◌≢◌, ℕ, ◌-◌, ◌^◌, ◌<◌, ◌≤◌, ◌∙◌, ap, arith, bit_and, pow_mono, min, w64}
+use Rattle.std.{specs.Int.bit_at, proofs.lemmas.Nat.Bits.{bit_at_above, bit_at_and, bit_at-lt, bit_at_not, bit_at-pow_other, bit_at-pow_same}}
 
 mask_fits : (k : ℕ) → k < 64 → 2 ^ k < 2 ^ 64
 mask_fits k few = let most : 2 ^ k ≤ 2 ^ 63 = pow_mono {i = k} {j = 63} (omega arith) in omega arith

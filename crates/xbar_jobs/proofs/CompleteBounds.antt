@@ -1,37 +1,23 @@
 -- how much a completing job asks for at most
-use Rattle.std.proofs.Common.{ℕ, suc, ◌≤◌, Bool, true, false, List, [], ◌∷◌, length, refl, arith}
-use Rattle.std.specs.Prelude.{Option, Some, None, IfSome}
-use Rattle.turns.specs.Script.{Ends, ◌>>=◌}
-use Rattle.xbar_equip.specs.Dialled.{code_of, number_of}
-use Rattle.xbar_equip.specs.Len.{Line, line_eq}
-use Rattle.xbar_equip.specs.declared.path.Path.{Path}
-use Rattle.xbar_plan.specs.Lawful.{IsLawful}
-use Rattle.xbar_plan.specs.Tables.{Tables, lines_of, route_of}
-use Rattle.xbar_plan.specs.declared.group.MemberPlace.{MemberPlace}
-use Rattle.xbar_plan.proofs.LawfulLookups.{lines_of-count, route_of-count}
-use Rattle.xbar_office.specs.Trunks.{leads_inside}
-use Rattle.xbar_office.specs.declared.aim.Aim.TheVariants.{Connected}
-use Rattle.xbar_jobs.specs.Closing.{leave_effects, leave_of, leaving, value_after}
-use Rattle.xbar_jobs.specs.Completing.{call, call_by, call_from, call_line, call_number, call_without, complete_from, complete_steps, hunt, register_at, unless_busy, unless_calling}
-use Rattle.xbar_jobs.specs.Connecting.{alone}
-use Rattle.xbar_jobs.specs.Script.{Script, as_if_made}
-use Rattle.xbar_jobs.specs.Sides.{party_after}
-use Rattle.xbar_jobs.specs.Tracing.{approach, channel_of, trace}
-use Rattle.xbar_jobs.specs.declared.decision.Decision.{Decision}
-use Rattle.xbar_jobs.specs.declared.leave.Leave.{Leave}
-use Rattle.xbar_jobs.specs.declared.party.Party.{Party}
-use Rattle.xbar_jobs.proofs.AskBounds.{Asks, asks_bind, asks_end, asks_more, asks_read, asks_then}
-use Rattle.xbar_jobs.proofs.Items.{if_found}
-use Rattle.xbar_jobs.proofs.TrialBounds.{connect_asks}
-use Rattle.xbar_jobs.proofs.TracingBounds.{approach_asks, trace_asks}
+use Rattle.std.proofs.Common.{ℕ, suc, ◌≤◌, Bool, true, false, List, [], ◌∷◌, length, refl, arith, Option, Some, None, IfSome}
+use Rattle.{turns.specs.Script.{Ends, ◌>>=◌}, xbar_equip.specs.{Dialled.{code_of, number_of}, Len.{Line, line_eq}, declared.path.Path.Path}}
+use Rattle.xbar_plan.specs.{Lawful.IsLawful, Tables.{Tables, lines_of, route_of}, declared.group.MemberPlace.MemberPlace}
+use Rattle.{xbar_plan.proofs.LawfulLookups.{lines_of-count, route_of-count}, xbar_office.specs.{Trunks.leads_inside, declared.aim.Aim.TheVariants.Connected}}
+use Rattle.xbar_jobs.specs.{Closing.{leave_effects, leave_of, leaving, value_after}, Completing.{call, call_by, call_from, call_line, call_number}}
+use Rattle.xbar_jobs.specs.{Completing.{call_without, complete_from, complete_steps, hunt, register_at, unless_busy, unless_calling}, Connecting.alone}
+use Rattle.xbar_jobs.specs.{Script.{Script, as_if_made}, Sides.party_after, Tracing.{approach, channel_of, trace}, declared.decision.Decision.Decision}
+use Rattle.xbar_jobs.{specs.declared.{leave.Leave.Leave, party.Party.Party}, proofs.AskBounds.{Asks, asks_bind, asks_end, asks_more, asks_read, asks_then}}
+use Rattle.xbar_jobs.proofs.{Items.if_found, TrialBounds.connect_asks, TracingBounds.{approach_asks, trace_asks}}
 
 -- each line that is hunted has a test and a seizing
-unless_busy_asks : (party : Party) (count : ℕ) (next : Script (Option Party)) (channel : Option ℕ) → Asks count count 0 next → Asks count count 0 (unless_busy party next channel)
+unless_busy_asks : (party : Party) (count : ℕ) (next : Script (Option Party)) (channel : Option ℕ) → Asks count count 0 next
+    → Asks count count 0 (unless_busy party next channel)
 unfolding Asks unless_busy
 unless_busy_asks party count next None asks = tt
 unless_busy_asks party count next (Some channel) asks = asks
 
-unless_calling_asks : (line : Line) (count : ℕ) (next : Script (Option Party)) (same : Bool) → Asks count count 0 next → Asks (suc count) (suc count) 0 (unless_calling line next same)
+unless_calling_asks : (line : Line) (count : ℕ) (next : Script (Option Party)) (same : Bool) → Asks count count 0 next
+    → Asks (suc count) (suc count) 0 (unless_calling line next same)
 unfolding unless_calling
 unless_calling_asks line count next true asks = asks_more count count 0 (suc count) (suc count) 0 next (omega arith) (omega arith) (omega arith) asks
 unless_calling_asks line count next false asks =
@@ -55,7 +41,8 @@ module _ (plan : Tables) (calling : Party) (groups : List ℕ) (few : length gro
   call_number_asks None fit = tt
   call_number_asks (Some lines) fit =
       asks_then 10 10 0 28 6 6 (hunt calling.line lines) _
-      (asks_more (length lines) (length lines) 0 10 10 0 (hunt calling.line lines) fit fit (omega arith) (hunt_asks calling.line lines)) (λ called. call_line_asks called)
+      (asks_more (length lines) (length lines) 0 10 10 0 (hunt calling.line lines) fit fit (omega arith) (hunt_asks calling.line lines))
+      (λ called. call_line_asks called)
 
   call_by_asks : IsLawful plan → (dialled : ℕ) (inside : Bool) → Asks 38 16 6 (call_by plan calling dialled groups inside)
   unfolding call_by
@@ -66,7 +53,8 @@ module _ (plan : Tables) (calling : Party) (groups : List ℕ) (few : length gro
       asks_more 28 6 6 38 16 6 _ (omega arith) (omega arith) (omega arith) (connect_asks plan Connected (alone calling) groups 4 few)
 
 module _ (plan : Tables) (laws : IsLawful plan) where
-  call_asks : (calling : Party) (dialled : ℕ) (groups : Option (List ℕ)) → IfSome groups (λ groups. length groups ≤ 4) → Asks 38 16 6 (call plan calling dialled groups)
+  call_asks : (calling : Party) (dialled : ℕ) (groups : Option (List ℕ)) → IfSome groups (λ groups. length groups ≤ 4)
+      → Asks 38 16 6 (call plan calling dialled groups)
   unfolding Asks call
   call_asks calling dialled None few = tt
   call_asks calling dialled (Some groups) few = call_by_asks plan calling groups few laws dialled (leads_inside plan groups)
@@ -79,7 +67,9 @@ module _ (plan : Tables) (laws : IsLawful plan) where
       let groups : Option (List ℕ) = route_of plan (code_of dialled) in
       let made_call : Script Decision = as_if_made (leave_effects leave) (call plan after dialled groups) in (
         omega arith,
-        asks_end 38 16 6 made_call (λ decision. Ends (leaving leave decision)) (asks_read (value_after (leave_effects leave)) 38 16 6 _ (call_asks after dialled groups (if_found groups (λ found is. (route_of-count plan laws (code_of dialled) found is).1)))) (λ decision. tt),
+        asks_end 38 16 6 made_call (λ decision. Ends (leaving leave decision))
+            (asks_read (value_after (leave_effects leave)) 38 16 6 _
+            (call_asks after dialled groups (if_found groups (λ found is. (route_of-count plan laws (code_of dialled) found is).1)))) (λ decision. tt),
       )
 
   from_asks : (calling : Party) (dialled : ℕ) (own : Path) (found : Option MemberPlace) → Asks 38 17 7 (call_from plan calling dialled own found)

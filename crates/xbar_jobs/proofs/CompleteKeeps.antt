@@ -1,38 +1,18 @@
 -- a completing job tests what is held by then, and lets go and takes what is held
-use Rattle.std.proofs.Common.{◌≡◌, ℕ, suc, ◌<◌, ◌==◌, Bool, true, false, List, [], ◌∷◌, ◌++◌, refl}
-use Rattle.std.specs.Prelude.{Option, Some, None, IfSome, if◌then◌else◌, option_and_then, slice_get}
-use Rattle.turns.specs.Script.{Ends, ◌>>=◌}
-use Rattle.turns.specs.System.{KeepsTo}
-use Rattle.turns.proofs.Lists.{in_last}
-use Rattle.turns.proofs.ReadWith.{keeps_read_with}
-use Rattle.xbar_equip.specs.Dialled.{code_of, number_of}
-use Rattle.xbar_equip.specs.Len.{Line, IsLine, line_eq}
-use Rattle.xbar_equip.specs.declared.conn.Conn.{Conn}
-use Rattle.xbar_equip.specs.declared.conn.Conn.TheVariants.{Group}
-use Rattle.xbar_equip.specs.declared.path.Path.{Path}
-use Rattle.xbar_plan.specs.Lawful.{IsLawful}
-use Rattle.xbar_plan.specs.Tables.{Tables, lines_of, member_place, register_group, route_of}
-use Rattle.xbar_plan.specs.declared.group.MemberPlace.{MemberPlace}
-use Rattle.xbar_plan.proofs.LawfulLookups.{lines_of-range, route_of-range}
-use Rattle.xbar_plan.proofs.MemberPlaces.{member_place-numbers}
-use Rattle.xbar_office.specs.Trunks.{AreGroups, leads_inside}
-use Rattle.xbar_office.specs.declared.aim.Aim.TheVariants.{Connected}
-use Rattle.xbar_office.specs.declared.reply.End.TheVariants.{CalledBusy, NoRegister, VacantCode, VacantNumber}
-use Rattle.xbar_jobs.specs.Closing.{leave_effects, leave_of, leaving, value_after}
-use Rattle.xbar_jobs.specs.Completing.{call, call_by, call_from, call_line, call_number, call_without, complete_from, complete_steps, hunt, if_register, register_at, unless_busy, unless_calling}
-use Rattle.xbar_jobs.specs.Connecting.{alone}
-use Rattle.xbar_jobs.specs.Office.{office}
-use Rattle.xbar_jobs.specs.Script.{Script, as_if_made}
-use Rattle.xbar_jobs.specs.Sides.{party_after}
-use Rattle.xbar_jobs.specs.Tracing.{approach, channel_of, trace}
-use Rattle.xbar_jobs.specs.declared.leave.Leave.{Leave}
-use Rattle.xbar_jobs.specs.declared.party.Party.{Party}
-use Rattle.xbar_jobs.proofs.ConnectKeeps.{connect_keeps}
-use Rattle.xbar_jobs.proofs.FittingEffects.{leave_words}
-use Rattle.xbar_jobs.proofs.HeldEffects.{IsHeldIfAny, IsHeldLeave, IsHeldPath, IsTaking, IsWellCovered, leave_held, leaving_covered, line_held, path_held, refused_takes, taking_covered}
-use Rattle.xbar_jobs.proofs.HeldWords.{keeps_then, one_more}
-use Rattle.xbar_jobs.proofs.Items.{if_found}
-use Rattle.xbar_jobs.proofs.TracingKeeps.{HoldsLine, approach_keeps, trace_keeps}
+use Rattle.std.proofs.Common.{◌≡◌, ℕ, suc, ◌<◌, ◌==◌, Bool, true, false, List, [], ◌∷◌, ◌++◌, refl, Option, Some, None, IfSome, if◌then◌else◌, option_and_then}
+use Rattle.std.proofs.Common.{slice_get}
+use Rattle.turns.{specs.{Script.{Ends, ◌>>=◌}, System.KeepsTo}, proofs.{Lists.in_last, ReadWith.keeps_read_with}}
+use Rattle.xbar_equip.specs.{Dialled.{code_of, number_of}, Len.{Line, IsLine, line_eq}, declared.{conn.Conn.{Conn, TheVariants.Group}, path.Path.Path}}
+use Rattle.xbar_plan.specs.{Lawful.IsLawful, Tables.{Tables, lines_of, member_place, register_group, route_of}, declared.group.MemberPlace.MemberPlace}
+use Rattle.xbar_plan.proofs.{LawfulLookups.{lines_of-range, route_of-range}, MemberPlaces.member_place-numbers}
+use Rattle.xbar_office.specs.{Trunks.{AreGroups, leads_inside}, declared.aim.Aim.TheVariants.Connected}
+use Rattle.{xbar_office.specs.declared.reply.End.TheVariants.{CalledBusy, NoRegister, VacantCode, VacantNumber}, xbar_jobs.specs.Closing.leave_effects}
+use Rattle.xbar_jobs.specs.{Closing.{leave_of, leaving, value_after}, Completing.{call, call_by, call_from, call_line, call_number, call_without}}
+use Rattle.xbar_jobs.specs.{Completing.{complete_from, complete_steps, hunt, if_register, register_at, unless_busy, unless_calling}, Connecting.alone}
+use Rattle.xbar_jobs.specs.{Office.office, Script.{Script, as_if_made}, Sides.party_after, Tracing.{approach, channel_of, trace}, declared.leave.Leave.Leave}
+use Rattle.xbar_jobs.{specs.declared.party.Party.Party, proofs.{ConnectKeeps.connect_keeps, FittingEffects.leave_words, HeldEffects.{IsHeldIfAny, IsHeldLeave}}}
+use Rattle.xbar_jobs.proofs.HeldEffects.{IsHeldPath, IsTaking, IsWellCovered, leave_held, leaving_covered, line_held, path_held, refused_takes, taking_covered}
+use Rattle.xbar_jobs.proofs.{HeldWords.{keeps_then, one_more}, Items.if_found, TracingKeeps.{HoldsLine, approach_keeps, trace_keeps}}
 
 -- the line of a party that was found is held
 abbrev HoldsFound : List Conn → Option Party → Type 0
@@ -50,12 +30,14 @@ module _ (plan : Tables) where
   abbrev Hunts : Script (Option Party) → Type 0
   Hunts next = (held : List Conn) → KeepsTo (office plan) HoldsFound held next
 
-  unless_busy_keeps : (held : List Conn) (party : Party) (next : Script (Option Party)) (channel : Option ℕ) → HoldsLine held party → Hunts next → KeepsTo (office plan) HoldsFound held (unless_busy party next channel)
+  unless_busy_keeps : (held : List Conn) (party : Party) (next : Script (Option Party)) (channel : Option ℕ) → HoldsLine held party → Hunts next
+      → KeepsTo (office plan) HoldsFound held (unless_busy party next channel)
   unfolding KeepsTo unless_busy
   unless_busy_keeps held party next None own hunts = own
   unless_busy_keeps held party next (Some channel) own hunts = hunts held
 
-  unless_calling_keeps : (held : List Conn) (line : Line) (next : Script (Option Party)) (same : Bool) → IsLine line → Hunts next → KeepsTo (office plan) HoldsFound held (unless_calling line next same)
+  unless_calling_keeps : (held : List Conn) (line : Line) (next : Script (Option Party)) (same : Bool) → IsLine line → Hunts next
+      → KeepsTo (office plan) HoldsFound held (unless_calling line next same)
   unfolding unless_calling
   unless_calling_keeps held line next true range hunts = hunts held
   unless_calling_keeps held line next false range hunts =
@@ -66,23 +48,27 @@ module _ (plan : Tables) where
   unfolding KeepsTo hunt
   hunt_keeps calling [] ranges held = tt
   hunt_keeps calling (line ∷ lines) ranges held =
-      unless_calling_keeps held line (hunt calling lines) (line_eq line calling) (ranges 0 line refl) (hunt_keeps calling lines (λ k other is. ranges (suc k) other is))
+      unless_calling_keeps held line (hunt calling lines) (line_eq line calling) (ranges 0 line refl)
+      (hunt_keeps calling lines (λ k other is. ranges (suc k) other is))
 
 module _ (plan : Tables) (laws : IsLawful plan) where
   module _ (calling : Party) (groups : List ℕ) (there : AreGroups plan groups) where
-    call_line_keeps : (held : List Conn) (called : Option Party) → HoldsLine held calling → HoldsFound held called → KeepsTo (office plan) IsTaking held (call_line plan calling groups called)
+    call_line_keeps : (held : List Conn) (called : Option Party) → HoldsLine held calling → HoldsFound held called
+        → KeepsTo (office plan) IsTaking held (call_line plan calling groups called)
     unfolding KeepsTo call_line
     call_line_keeps held None own found = refused_takes held CalledBusy
     call_line_keeps held (Some called) own found = connect_keeps plan laws held Connected _ groups (record { calling = own; called = found }) there
 
-    call_number_keeps : (held : List Conn) (lines : Option (List Line)) → HoldsLine held calling → IfSome lines (λ lines. AreLines lines) → KeepsTo (office plan) IsTaking held (call_number plan calling groups lines)
+    call_number_keeps : (held : List Conn) (lines : Option (List Line)) → HoldsLine held calling → IfSome lines (λ lines. AreLines lines)
+        → KeepsTo (office plan) IsTaking held (call_number plan calling groups lines)
     unfolding KeepsTo call_number
     call_number_keeps held None own ranges = refused_takes held VacantNumber
     call_number_keeps held (Some lines) own ranges =
         keeps_then plan HoldsFound IsTaking held (hunt calling.line lines) _ (hunt_keeps plan calling.line lines ranges held)
         (λ conns called among found. call_line_keeps conns called (line_held held conns among calling.line own) found)
 
-    call_by_keeps : (held : List Conn) (dialled : ℕ) (inside : Bool) → HoldsLine held calling → KeepsTo (office plan) IsTaking held (call_by plan calling dialled groups inside)
+    call_by_keeps : (held : List Conn) (dialled : ℕ) (inside : Bool) → HoldsLine held calling
+        → KeepsTo (office plan) IsTaking held (call_by plan calling dialled groups inside)
     unfolding call_by
     call_by_keeps held dialled true own =
         let lines = lines_of plan (number_of dialled) in
@@ -90,24 +76,29 @@ module _ (plan : Tables) (laws : IsLawful plan) where
     call_by_keeps held dialled false own = connect_keeps plan laws held Connected (alone calling) groups (record { calling = own; called = tt }) there
 
   -- with the calling line held, a call may be made to what was dialled
-  call_keeps : (held : List Conn) (calling : Party) (dialled : ℕ) (groups : Option (List ℕ)) → HoldsLine held calling → IfSome groups (λ groups. AreGroups plan groups) → KeepsTo (office plan) IsTaking held (call plan calling dialled groups)
+  call_keeps : (held : List Conn) (calling : Party) (dialled : ℕ) (groups : Option (List ℕ)) → HoldsLine held calling
+      → IfSome groups (λ groups. AreGroups plan groups) → KeepsTo (office plan) IsTaking held (call plan calling dialled groups)
   unfolding KeepsTo call
   call_keeps held calling dialled None own there = refused_takes held VacantCode
   call_keeps held calling dialled (Some groups) own there = call_by_keeps calling groups there held dialled (leads_inside plan groups) own
 
   -- a call made as if a member were let go, which is decided then
   leaving_keeps : (held : List Conn) (calling : Party) (dialled : ℕ) (leave : Leave) → leave.other ≡ None → HoldsLine held calling → IsHeldLeave held leave
-      → KeepsTo (office plan) (IsWellCovered plan) held (as_if_made (leave_effects leave) (call plan (party_after (leave_effects leave) calling) dialled (route_of plan (code_of dialled))) >>= λ decision. Ends (leaving leave decision))
+      → KeepsTo (office plan) (IsWellCovered plan) held
+      (as_if_made (leave_effects leave) (call plan (party_after (leave_effects leave) calling) dialled (route_of plan (code_of dialled))) >>= λ decision. Ends
+      (leaving leave decision))
   unfolding KeepsTo
   leaving_keeps held calling dialled leave alone line let_go =
       let after : Party = party_after (leave_effects leave) calling in
       let groups : Option (List ℕ) = route_of plan (code_of dialled) in
       keeps_then plan IsTaking (IsWellCovered plan) held _ _
-      (keeps_read_with (office plan) IsTaking held (value_after (leave_effects leave)) _ (leave_words plan leave) (call_keeps held after dialled groups line (if_found groups (λ found is. route_of-range plan laws (code_of dialled) found is))))
+      (keeps_read_with (office plan) IsTaking held (value_after (leave_effects leave)) _ (leave_words plan leave)
+      (call_keeps held after dialled groups line (if_found groups (λ found is. route_of-range plan laws (code_of dialled) found is))))
       (λ conns decision still taking. leaving_covered plan conns leave decision alone (leave_held held conns still leave let_go) taking)
 
   -- the register's group is seized first
-  without_keeps : (held : List Conn) (calling : Party) (dialled : ℕ) (own : Path) (found : MemberPlace) → HoldsLine held calling → IsHeldPath held own → HasNumbers found → KeepsTo (office plan) (IsWellCovered plan) held (call_without plan calling dialled (leave_of own None found))
+  without_keeps : (held : List Conn) (calling : Party) (dialled : ℕ) (own : Path) (found : MemberPlace) → HoldsLine held calling → IsHeldPath held own
+      → HasNumbers found → KeepsTo (office plan) (IsWellCovered plan) held (call_without plan calling dialled (leave_of own None found))
   unfolding KeepsTo call_without ◌>>=◌
   without_keeps held calling dialled own found line path numbers =
       let more : List Conn = held ++ Group found.group ∷ [] in
@@ -119,7 +110,8 @@ module _ (plan : Tables) (laws : IsLawful plan) where
       } in
       (numbers.0, leaving_keeps more calling dialled (leave_of own None found) refl (line_held held more still calling.line line) let_go)
 
-  from_keeps : (held : List Conn) (calling : Party) (dialled : ℕ) (own : Path) (found : Option MemberPlace) → HoldsLine held calling → IsHeldPath held own → IfSome found (λ found. HasNumbers found) → KeepsTo (office plan) (IsWellCovered plan) held (call_from plan calling dialled own found)
+  from_keeps : (held : List Conn) (calling : Party) (dialled : ℕ) (own : Path) (found : Option MemberPlace) → HoldsLine held calling → IsHeldPath held own
+      → IfSome found (λ found. HasNumbers found) → KeepsTo (office plan) (IsWellCovered plan) held (call_from plan calling dialled own found)
   unfolding KeepsTo call_from
   from_keeps held calling dialled own None line path numbers = taking_covered plan held _ (refused_takes held NoRegister)
   from_keeps held calling dialled own (Some found) line path numbers = without_keeps held calling dialled own found line path numbers
@@ -135,7 +127,8 @@ module _ (plan : Tables) (laws : IsLawful plan) where
     of None is = tt
     of (Some found) is = tested found (found.group == register_group plan) (member_place-numbers plan laws own.place found is)
 
-  complete_from_keeps : (held : List Conn) (calling : Party) (dialled : ℕ) (own : Option Path) → HoldsLine held calling → IsHeldIfAny held own → KeepsTo (office plan) (IsWellCovered plan) held (complete_from plan calling dialled own)
+  complete_from_keeps : (held : List Conn) (calling : Party) (dialled : ℕ) (own : Option Path) → HoldsLine held calling → IsHeldIfAny held own
+      → KeepsTo (office plan) (IsWellCovered plan) held (complete_from plan calling dialled own)
   unfolding KeepsTo complete_from
   complete_from_keeps held calling dialled None line path = taking_covered plan held _ (refused_takes held NoRegister)
   complete_from_keeps held calling dialled (Some own) line path = from_keeps held calling dialled own (register_at plan own) line path (register_numbers own)

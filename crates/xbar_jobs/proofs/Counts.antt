@@ -1,17 +1,8 @@
 -- what an attempt holds after answers one after another
 use Rattle.std.proofs.Common.{◌≤◌, List, [], ◌∷◌, length}
-use Rattle.turns.specs.Attempt.{begin_with}
-use Rattle.turns.specs.declared.answer.Answer.{Answer}
-use Rattle.turns.proofs.SteadyAttempts.{job_stays}
-use Rattle.xbar_plan.specs.Lawful.{IsLawful}
-use Rattle.xbar_plan.specs.Tables.{Tables}
-use Rattle.xbar_office.specs.Legal.{IsJob}
-use Rattle.xbar_office.specs.declared.job.Job.{Job}
-use Rattle.xbar_jobs.specs.Attempt.{Counted, fresh}
-use Rattle.xbar_jobs.specs.Counting.{AreAnswers, after_answer, after_answers}
-use Rattle.xbar_jobs.specs.Jobs.{first_conn}
-use Rattle.xbar_jobs.specs.Office.{office}
-use Rattle.xbar_jobs.specs.Standing.{IsValid, most_held}
+use Rattle.turns.{specs.{Attempt.begin_with, declared.answer.Answer.Answer}, proofs.SteadyAttempts.job_stays}
+use Rattle.{xbar_plan.specs.{Lawful.IsLawful, Tables.Tables}, xbar_office.specs.{Legal.IsJob, declared.job.Job.Job}, xbar_jobs.specs.Attempt.{Counted, fresh}}
+use Rattle.xbar_jobs.specs.{Counting.{AreAnswers, after_answer, after_answers}, Jobs.first_conn, Office.office, Standing.{IsValid, most_held}}
 use Rattle.xbar_jobs.proofs.AttemptStands.{stands_after, stands_begun}
 
 module _ (plan : Tables) (laws : IsLawful plan) where

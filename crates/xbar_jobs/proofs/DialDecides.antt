@@ -1,42 +1,15 @@
 -- jobs that join parties by some groups decide, on words that show a set, what the one-marker office does on the set
-use Rattle.std.proofs.Common.{◌≡◌, ℕ, ◌≤◌, Bool, true, false, List, [], ◌∷◌, length, inl, inr, refl, sym, subst}
-use Rattle.std.specs.Prelude.{Option, Some, None, if◌then◌else◌}
-use Rattle.turns.specs.Script.{◌>>=◌, run}
-use Rattle.turns.specs.System.{DecidesAs, perform_all}
-use Rattle.xbar_equip.specs.Among.{IsIn}
-use Rattle.xbar_equip.specs.Len.{Line, IsLine}
-use Rattle.xbar_equip.specs.Paths.{has_line, is_idle}
-use Rattle.xbar_equip.specs.declared.path.Path.{Path}
-use Rattle.xbar_plan.specs.Tables.{Tables, register_group}
-use Rattle.xbar_plan.specs.Lawful.{IsLawful}
-use Rattle.xbar_office.specs.Complete.{connect as office_connect, try_trunk as office_try}
-use Rattle.xbar_office.specs.Dial.{dial, dial_register}
-use Rattle.xbar_office.specs.Done.{Done, tried as office_tried, refused as office_refused}
-use Rattle.xbar_office.specs.Members.{members_of, first_idle}
-use Rattle.xbar_office.specs.Trunks.{idle_trunk, trunk_or}
-use Rattle.xbar_office.specs.TwoTrials.{two_trials}
-use Rattle.xbar_office.specs.declared.aim.Aim.{Aim}
-use Rattle.xbar_office.specs.declared.aim.Aim.TheVariants.{DialTone, Connected}
-use Rattle.xbar_office.specs.declared.reply.Card.{Card}
-use Rattle.xbar_office.specs.declared.reply.End.{End}
-use Rattle.xbar_office.specs.declared.reply.End.TheVariants.{LineBusy}
-use Rattle.xbar_office.specs.declared.route.IdleTrunk.{IdleTrunk}
-use Rattle.xbar_office.specs.declared.two_trials.Choice.{Choice}
-use Rattle.xbar_office.specs.declared.two_trials.Trials.{Trials}
-use Rattle.xbar_office.proofs.CallJobs.{idle_trunk-is}
-use Rattle.xbar_office.proofs.DialJobs.{are_parties}
-use Rattle.xbar_office.proofs.GoodTrials.{AreParties, GoodChoice, good_trials}
-use Rattle.xbar_jobs.specs.Closing.{refused, tried}
-use Rattle.xbar_jobs.specs.Connecting.{alone, busy_end, connect}
-use Rattle.xbar_jobs.specs.Jobs.{dial_steps, serve_idle_line}
-use Rattle.xbar_jobs.specs.Office.{ShowsOffice, office}
-use Rattle.xbar_jobs.specs.Tracing.{approach, channel_of}
-use Rattle.xbar_jobs.specs.declared.decision.Decision.{Decision}
-use Rattle.xbar_jobs.specs.declared.party.CallParties.{CallParties}
-use Rattle.xbar_jobs.specs.declared.party.Party.{Party}
-use Rattle.xbar_jobs.proofs.ConnectRuns.{connect_runs, decided_by}
-use Rattle.xbar_jobs.proofs.LineChannels.{busy_channel, idle_channel}
-use Rattle.xbar_jobs.proofs.TakenMembers.{take_due, take_shows}
+use Rattle.std.proofs.Common.{◌≡◌, ℕ, ◌≤◌, Bool, true, false, List, [], ◌∷◌, length, inl, inr, refl, sym, subst, Option, Some, None, if◌then◌else◌}
+use Rattle.turns.specs.{Script.{◌>>=◌, run}, System.{DecidesAs, perform_all}}
+use Rattle.xbar_equip.specs.{Among.IsIn, Len.{Line, IsLine}, Paths.{has_line, is_idle}, declared.path.Path.Path}
+use Rattle.{xbar_plan.specs.{Tables.{Tables, register_group}, Lawful.IsLawful}, xbar_office.specs.Complete.{connect as office_connect, try_trunk as office_try}}
+use Rattle.xbar_office.specs.{Dial.{dial, dial_register}, Done.{Done, tried as office_tried, refused as office_refused}, Members.{members_of, first_idle}}
+use Rattle.xbar_office.specs.{Trunks.{idle_trunk, trunk_or}, TwoTrials.two_trials, declared.{aim.Aim.{Aim, TheVariants.{DialTone, Connected}}, reply.Card.Card}}
+use Rattle.xbar_office.specs.declared.{reply.End.{End, TheVariants.LineBusy}, route.IdleTrunk.IdleTrunk, two_trials.{Choice.Choice, Trials.Trials}}
+use Rattle.xbar_office.proofs.{CallJobs.idle_trunk-is, DialJobs.are_parties, GoodTrials.{AreParties, GoodChoice, good_trials}}
+use Rattle.xbar_jobs.specs.{Closing.{refused, tried}, Connecting.{alone, busy_end, connect}, Jobs.{dial_steps, serve_idle_line}, Office.{ShowsOffice, office}}
+use Rattle.xbar_jobs.specs.{Tracing.{approach, channel_of}, declared.{decision.Decision.Decision, party.{CallParties.CallParties, Party.Party}}}
+use Rattle.xbar_jobs.proofs.{ConnectRuns.{connect_runs, decided_by}, LineChannels.{busy_channel, idle_channel}, TakenMembers.{take_due, take_shows}}
 use Rattle.xbar_jobs.proofs.TestedParties.{AreTestedOn, TestedOn, lines_of_parties, party_of, party_of-tested}
 
 -- a decision is that of a job done whole
@@ -51,7 +24,8 @@ pub record TakesOn (plan : Tables) (words : List ℕ) (decision : Decision) (don
 -- what the one-marker office does with the trunk that it takes
 abbrev pub done_by : Tables → List Path → Aim → CallParties → Option IdleTrunk → Done
 done_by plan paths aim parties None = office_refused paths (busy_end aim)
-done_by plan paths aim parties (Some trunk) = office_tried aim paths (two_trials plan paths (lines_of_parties parties) (members_of plan trunk.group) trunk.first)
+done_by plan paths aim parties (Some trunk) =
+    office_tried aim paths (two_trials plan paths (lines_of_parties parties) (members_of plan trunk.group) trunk.first)
 
 module _ (plan : Tables) (words : List ℕ) (paths : List Path) (laws : IsLawful plan) (size : 453 ≤ length words) (shows : ShowsOffice plan words paths) where
   -- nothing is taken, and nothing changes
@@ -60,7 +34,8 @@ module _ (plan : Tables) (words : List ℕ) (paths : List Path) (laws : IsLawful
   refused_takes end = record { decides = record { reply = refl; shows = shows; due = tt }; leaves = refl }
 
   -- what trials chose is taken
-  tried_takes : (aim : Aim) (group : ℕ) (trials : Trials) → GoodChoice plan paths group trials.choice → TakesOn plan words (tried aim group trials) (office_tried aim paths trials)
+  tried_takes : (aim : Aim) (group : ℕ) (trials : Trials) → GoodChoice plan paths group trials.choice
+      → TakesOn plan words (tried aim group trials) (office_tried aim paths trials)
   unfolding perform_all
   tried_takes aim group trials good = by trials.choice trials.cards good where
     by : (choice : Option Choice) (cards : List Card) → GoodChoice plan paths group choice
@@ -75,8 +50,10 @@ module _ (plan : Tables) (words : List ℕ) (paths : List Path) (laws : IsLawful
       leaves = refl;
     }
 
-  module _ (parties : CallParties) (tested : AreTestedOn words parties) (groups : List ℕ) (are : (group : ℕ) → IsIn group groups → AreParties plan paths group (lines_of_parties parties)) where
-    trunk_takes : (aim : Aim) (found : Option IdleTrunk) → idle_trunk plan paths groups ≡ found → TakesOn plan words (decided_by plan paths aim parties found) (done_by plan paths aim parties found)
+  module _ (parties : CallParties) (tested : AreTestedOn words parties) (groups : List ℕ)
+      (are : (group : ℕ) → IsIn group groups → AreParties plan paths group (lines_of_parties parties)) where
+    trunk_takes : (aim : Aim) (found : Option IdleTrunk) → idle_trunk plan paths groups ≡ found
+        → TakesOn plan words (decided_by plan paths aim parties found) (done_by plan paths aim parties found)
     trunk_takes aim None is = refused_takes (busy_end aim)
     trunk_takes aim (Some trunk) is =
         let idle = idle_trunk-is plan paths groups trunk is in
@@ -85,9 +62,11 @@ module _ (plan : Tables) (words : List ℕ) (paths : List Path) (laws : IsLawful
         (good_trials plan paths trunk.group lines laws (are trunk.group idle.within) trunk.first idle.idle)
 
     -- the parties are joined as the one-marker office joins their lines
-    connecting_takes : (aim : Aim) → TakesOn plan words (run words (connect plan aim parties groups)) (done_by plan paths aim parties (idle_trunk plan paths groups))
+    connecting_takes : (aim : Aim)
+        → TakesOn plan words (run words (connect plan aim parties groups)) (done_by plan paths aim parties (idle_trunk plan paths groups))
     connecting_takes aim =
-        subst (λ (decision : Decision). TakesOn plan words decision (done_by plan paths aim parties (idle_trunk plan paths groups))) (sym (connect_runs plan words paths laws size shows aim parties tested groups))
+        subst (λ (decision : Decision). TakesOn plan words decision (done_by plan paths aim parties (idle_trunk plan paths groups)))
+        (sym (connect_runs plan words paths laws size shows aim parties tested groups))
         (trunk_takes aim (idle_trunk plan paths groups) refl)
 
     call_done : (found : Option IdleTrunk) → done_by plan paths Connected parties found ≡ office_try plan paths (lines_of_parties parties) found
@@ -96,7 +75,8 @@ module _ (plan : Tables) (words : List ℕ) (paths : List Path) (laws : IsLawful
 
     -- so in a call
     pub connect_takes : TakesOn plan words (run words (connect plan Connected parties groups)) (office_connect plan paths (lines_of_parties parties) groups)
-    connect_takes = subst (TakesOn plan words (run words (connect plan Connected parties groups))) (call_done (idle_trunk plan paths groups)) (connecting_takes Connected)
+    connect_takes =
+        subst (TakesOn plan words (run words (connect plan Connected parties groups))) (call_done (idle_trunk plan paths groups)) (connecting_takes Connected)
 
   module _ (line : Line) (in_range : IsLine line) where
     abbrev calling : Party
@@ -108,18 +88,24 @@ module _ (plan : Tables) (words : List ℕ) (paths : List Path) (laws : IsLawful
     alone_tested : AreTestedOn words (alone calling)
     alone_tested = record { calling = tested; called = λ party is. absurd cc }
 
-    registers_done : (first : Option ℕ) → done_by plan paths DialTone (alone calling) (trunk_or (register_group plan) first None) ≡ dial_register plan paths line (members_of plan (register_group plan)) first
+    registers_done : (first : Option ℕ)
+        → done_by plan paths DialTone (alone calling) (trunk_or (register_group plan) first None)
+        ≡ dial_register plan paths line (members_of plan (register_group plan)) first
     registers_done None = refl
     registers_done (Some first) = refl
 
     -- an idle line gets what the one-marker office gives it
     idle_line_takes : is_idle (has_line line) paths ≡ true
-        → TakesOn plan words (run words (connect plan DialTone (alone calling) (register_group plan ∷ []))) (dial_register plan paths line (members_of plan (register_group plan)) (first_idle paths (members_of plan (register_group plan))))
+        → TakesOn plan words (run words (connect plan DialTone (alone calling) (register_group plan ∷ [])))
+        (dial_register plan paths line (members_of plan (register_group plan)) (first_idle paths (members_of plan (register_group plan))))
     idle_line_takes idle =
-        subst (TakesOn plan words (run words (connect plan DialTone (alone calling) (register_group plan ∷ [])))) (registers_done (first_idle paths (members_of plan (register_group plan))))
+        subst (TakesOn plan words (run words (connect plan DialTone (alone calling) (register_group plan ∷ []))))
+        (registers_done (first_idle paths (members_of plan (register_group plan))))
         (connecting_takes (alone calling) alone_tested (register_group plan ∷ []) suits DialTone) where
           suits : (group : ℕ) → IsIn group (register_group plan ∷ []) → AreParties plan paths group (lines_of_parties (alone calling))
-          suits group (inl same) = subst (λ (number : ℕ). AreParties plan paths number (lines_of_parties (alone calling))) (sym same) (are_parties plan paths line laws in_range idle)
+          suits group (inl same) =
+              subst (λ (number : ℕ). AreParties plan paths number (lines_of_parties (alone calling))) (sym same)
+              (are_parties plan paths line laws in_range idle)
           suits group (inr none) = absurd none
 
     -- so a dial tone job decides as the one-marker office does, and lets nothing go
@@ -129,10 +115,13 @@ module _ (plan : Tables) (words : List ℕ) (paths : List Path) (laws : IsLawful
       registers : Done
       registers = dial_register plan paths line (members_of plan (register_group plan)) (first_idle paths (members_of plan (register_group plan)))
 
-      at : (b : Bool) → is_idle (has_line line) paths ≡ b → TakesOn plan words (run words (serve_idle_line plan calling (channel_of calling))) (if b then registers else office_refused paths LineBusy)
+      at : (b : Bool) → is_idle (has_line line) paths ≡ b
+          → TakesOn plan words (run words (serve_idle_line plan calling (channel_of calling))) (if b then registers else office_refused paths LineBusy)
       at false busy =
-          subst (λ (channel : Option ℕ). TakesOn plan words (run words (serve_idle_line plan calling channel)) (office_refused paths LineBusy)) (sym (busy_channel plan words paths shows calling tested busy).1)
+          subst (λ (channel : Option ℕ). TakesOn plan words (run words (serve_idle_line plan calling channel)) (office_refused paths LineBusy))
+          (sym (busy_channel plan words paths shows calling tested busy).1)
           (refused_takes LineBusy)
       at true idle =
-          subst (λ (channel : Option ℕ). TakesOn plan words (run words (serve_idle_line plan calling channel)) registers) (sym (idle_channel plan words paths shows calling tested idle))
+          subst (λ (channel : Option ℕ). TakesOn plan words (run words (serve_idle_line plan calling channel)) registers)
+          (sym (idle_channel plan words paths shows calling tested idle))
           (idle_line_takes idle)

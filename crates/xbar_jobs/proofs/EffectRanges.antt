@@ -1,25 +1,18 @@
 -- the effects on paths and members that are in range are effects of the office
-use Rattle.std.proofs.Common.{◌<◌, List, [], ◌∷◌, ◌++◌, map, inl, inr, sym, subst}
-use Rattle.std.specs.Prelude.{Option, Some, None, IfSome}
-use Rattle.turns.proofs.Lists.{in_either}
-use Rattle.xbar_equip.specs.Crosspoint.{crosspoints}
-use Rattle.xbar_equip.specs.Path.{IsPath}
-use Rattle.xbar_equip.specs.declared.crosspoint.Crosspoint.{Crosspoint}
-use Rattle.xbar_equip.specs.declared.path.Path.{Path}
-use Rattle.xbar_match.specs.Effects.{IsCrosspoint}
-use Rattle.xbar_match.proofs.PathEffects.{crosspoint_line, crosspoint_line_junctor, crosspoint_trunk_junctor, crosspoint_trunk}
-use Rattle.xbar_jobs.specs.Closing.{leave_effects, other_opens, path_closes, path_opens}
-use Rattle.xbar_jobs.specs.Keeping.{AreEffects, IsEffect}
-use Rattle.xbar_jobs.specs.declared.effect.Effect.{Effect}
-use Rattle.xbar_jobs.specs.declared.effect.Effect.TheVariants.{Close, Open, ClearBit}
-use Rattle.xbar_jobs.specs.declared.leave.Leave.{Leave}
+use Rattle.std.proofs.Common.{◌<◌, List, [], ◌∷◌, ◌++◌, map, inl, inr, sym, subst, Option, Some, None, IfSome}
+use Rattle.{turns.proofs.Lists.in_either, xbar_equip.specs.{Crosspoint.crosspoints, Path.IsPath, declared.{crosspoint.Crosspoint.Crosspoint, path.Path.Path}}}
+use Rattle.xbar_match.{specs.Effects.IsCrosspoint, proofs.PathEffects.{crosspoint_line, crosspoint_line_junctor, crosspoint_trunk_junctor, crosspoint_trunk}}
+use Rattle.xbar_jobs.specs.{Closing.{leave_effects, other_opens, path_closes, path_opens}, Keeping.{AreEffects, IsEffect}, declared.effect.Effect.Effect}
+use Rattle.xbar_jobs.specs.declared.{effect.Effect.TheVariants.{Close, Open, ClearBit}, leave.Leave.Leave}
 
 -- the effects of both lists are in range, if those of each are
 pub both_range : (effects others : List Effect) → AreEffects effects → AreEffects others → AreEffects (effects ++ others)
-both_range effects others front back effect within = elim (in_either effect effects others within) [ inl own ↦ front effect own | inr other ↦ back effect other ]
+both_range effects others front back effect within =
+    elim (in_either effect effects others within) [ inl own ↦ front effect own | inr other ↦ back effect other ]
 
 -- what is made of each crosspoint of a path
-made_range : (make : Crosspoint → Effect) → ((c : Crosspoint) → IsCrosspoint c → IsEffect (make c)) → (path : Path) → IsPath path → AreEffects (map make (crosspoints path))
+made_range : (make : Crosspoint → Effect) → ((c : Crosspoint) → IsCrosspoint c → IsEffect (make c)) → (path : Path) → IsPath path
+    → AreEffects (map make (crosspoints path))
 made_range make may path range effect (inl e) = subst IsEffect (sym e) (may _ (crosspoint_line path range))
 made_range make may path range effect (inr (inl e)) = subst IsEffect (sym e) (may _ (crosspoint_line_junctor path range))
 made_range make may path range effect (inr (inr (inl e))) = subst IsEffect (sym e) (may _ (crosspoint_trunk_junctor path range))

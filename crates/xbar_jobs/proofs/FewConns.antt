@@ -1,19 +1,14 @@
 -- distinct connectors are at most ten line link frames, and the others
-use Rattle.std.proofs.Common.{◌≡◌, ℕ, ◌+◌, ◌<◌, ◌≤◌, Bool, true, false, List, [], ◌∷◌, ◌++◌, length, map, eqb, inl, inr, refl, sym, ap, subst, arith}
-use Rattle.std.specs.Prelude.{◌||◌}
-use Rattle.std.specs.List.{AllByRecursion, IsDistinct, list_any}
-use Rattle.std.proofs.lemmas.Bool.{eqb-true}
-use Rattle.std.proofs.lemmas.List.{length-map}
-use Rattle.std.proofs.lemmas.Map.Steps.{length-le_from_distinct_below}
-use Rattle.turns.specs.Among.{IsIn, AreDistinct}
-use Rattle.xbar_equip.specs.declared.conn.Conn.{Conn}
-use Rattle.xbar_equip.specs.declared.conn.Conn.TheVariants.{Llf, Tlf, Group}
-use Rattle.xbar_jobs.specs.Others.{others, others_in}
-use Rattle.xbar_jobs.specs.Standing.{AreConns, most_held, most_others}
+use Rattle.std.proofs.Common.{◌≡◌, ℕ, ◌+◌, ◌<◌, ◌≤◌, Bool, true, false, List, [], ◌∷◌, ◌++◌, length, map, eqb, inl, inr, refl, sym, ap, subst, arith, ◌||◌}
+use Rattle.std.proofs.Common.{eqb-true}
+use Rattle.std.{specs.List.{AllByRecursion, IsDistinct, list_any}, proofs.lemmas.{List.length-map, Map.Steps.length-le_from_distinct_below}}
+use Rattle.{turns.specs.Among.{IsIn, AreDistinct}, xbar_equip.specs.declared.conn.Conn.{Conn, TheVariants.{Llf, Tlf, Group}}}
+use Rattle.xbar_jobs.specs.{Others.{others, others_in}, Standing.{AreConns, most_held, most_others}}
 
 -- distinct items, each at a place of its own, are no more than there are places
 module _ {A : Type 0} (place : A → ℕ) where
-  none_at : (items : List A) (item : A) → ((other : A) → IsIn other items → place item ≡ place other → ⊥) → AllByRecursion (λ n. eqb (place item) n ≡ false) (map place items)
+  none_at : (items : List A) (item : A) → ((other : A) → IsIn other items → place item ≡ place other → ⊥)
+      → AllByRecursion (λ n. eqb (place item) n ≡ false) (map place items)
   none_at [] item apart = tt
   none_at (first ∷ items) item apart = (by (eqb (place item) (place first)) refl, none_at items item (λ other within. apart other (inr within))) where
     by : (same : Bool) → eqb (place item) (place first) ≡ same → eqb (place item) (place first) ≡ false
@@ -33,12 +28,15 @@ module _ {A : Type 0} (place : A → ℕ) where
 
   places_below : (items : List A) (most n : ℕ) → ((item : A) → IsIn item items → place item < most) → list_any (eqb n) (map place items) ≡ true → n < most
   places_below [] most n below among = absurd cc
-  places_below (item ∷ items) most n below among = by (eqb n (place item)) refl among (λ later. places_below items most n (λ other within. below other (inr within)) later) where
-    by : (here : Bool) → eqb n (place item) ≡ here → (here || list_any (eqb n) (map place items)) ≡ true → (list_any (eqb n) (map place items) ≡ true → n < most) → n < most
-    by true is found later = let here = below item (inl refl) in let same = eqb-true n (place item) is in omega (arith, here, same)
-    by false is found later = later found
+  places_below (item ∷ items) most n below among =
+      by (eqb n (place item)) refl among (λ later. places_below items most n (λ other within. below other (inr within)) later) where
+        by : (here : Bool) → eqb n (place item) ≡ here → (here || list_any (eqb n) (map place items)) ≡ true
+            → (list_any (eqb n) (map place items) ≡ true → n < most) → n < most
+        by true is found later = let here = below item (inl refl) in let same = eqb-true n (place item) is in omega (arith, here, same)
+        by false is found later = later found
 
-  pub few_distinct : (items : List A) (most : ℕ) → HaveOwnPlaces items → ((item : A) → IsIn item items → place item < most) → AreDistinct items → length items ≤ most
+  pub few_distinct : (items : List A) (most : ℕ) → HaveOwnPlaces items → ((item : A) → IsIn item items → place item < most) → AreDistinct items
+      → length items ≤ most
   few_distinct items most own below apart =
       let few = length-le_from_distinct_below (map place items) most (places_distinct items own apart) (λ n among. places_below items most n below among) in
       let size = length-map items place in
@@ -75,7 +73,9 @@ frames_distinct (Group group ∷ conns) apart = frames_distinct conns apart.1
 pub few_conns : (conns : List Conn) → AreConns conns → AreDistinct conns
     → others_in conns ≤ most_others → length conns ≤ most_held
 few_conns conns are apart few =
-    let frames : length (frames_in conns) ≤ 10 = few_distinct (λ frame. frame) (frames_in conns) 10 (λ one other here there same. same) (λ frame within. are (Llf frame) (frame_there conns frame within)) (frames_distinct conns apart) in
+    let frames : length (frames_in conns) ≤ 10 =
+    few_distinct (λ frame. frame) (frames_in conns) 10 (λ one other here there same. same) (λ frame within. are (Llf frame) (frame_there conns frame within))
+    (frames_distinct conns apart) in
     omega (arith, frames, counted conns, few)
 
 -- one more at the end

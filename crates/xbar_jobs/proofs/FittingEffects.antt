@@ -1,27 +1,11 @@
 -- effects of the office put no more than 64 bits into their words
-use Rattle.std.proofs.Common.{◌≤◌, ◌^◌, List, [], ◌∷◌, map, inl, inr, sym, subst, pow_mono, arith}
-use Rattle.std.specs.Prelude.{◌⊎◌, Option, Some, None, ◌-◌}
-use Rattle.turns.specs.Among.{IsIn}
-use Rattle.turns.specs.Operations.{FitsWord}
-use Rattle.turns.specs.System.{DecidesUnder, FitWords}
-use Rattle.turns.proofs.Lists.{in_either}
-use Rattle.turns.proofs.Words.{MakesWords, made_below}
-use Rattle.xbar_equip.specs.Crosspoint.{crosspoints}
-use Rattle.xbar_equip.specs.declared.conn.Conn.{Conn}
-use Rattle.xbar_equip.specs.declared.crosspoint.Crosspoint.{Crosspoint}
-use Rattle.xbar_equip.specs.declared.path.Path.{Path}
-use Rattle.xbar_switch.specs.Field.{close_bits_of}
-use Rattle.xbar_switch.proofs.Fields.{above_fields-close_bits}
-use Rattle.xbar_match.specs.Switches.{shape_at}
-use Rattle.xbar_match.proofs.OneCrosspoint.{no_more-lt}
-use Rattle.xbar_plan.specs.Tables.{Tables}
-use Rattle.xbar_jobs.specs.Closing.{leave_effects, value_after, operation_of, other_opens, path_opens}
-use Rattle.xbar_jobs.specs.Keeping.{IsCovered, IsEffect}
-use Rattle.xbar_jobs.specs.Office.{office}
-use Rattle.xbar_jobs.specs.declared.decision.Decision.{Decision}
-use Rattle.xbar_jobs.specs.declared.effect.Effect.{Effect}
-use Rattle.xbar_jobs.specs.declared.effect.Effect.TheVariants.{Close, Open, SetBit, ClearBit}
-use Rattle.xbar_jobs.specs.declared.leave.Leave.{Leave}
+use Rattle.std.proofs.Common.{◌≤◌, ◌^◌, List, [], ◌∷◌, map, inl, inr, sym, subst, pow_mono, arith, ◌⊎◌, Option, Some, None, ◌-◌}
+use Rattle.turns.{specs.{Among.IsIn, Operations.FitsWord, System.{DecidesUnder, FitWords}}, proofs.{Lists.in_either, Words.{MakesWords, made_below}}}
+use Rattle.xbar_equip.specs.{Crosspoint.crosspoints, declared.{conn.Conn.Conn, crosspoint.Crosspoint.Crosspoint, path.Path.Path}}
+use Rattle.{xbar_switch.{specs.Field.close_bits_of, proofs.Fields.above_fields-close_bits}, xbar_match.specs.Switches.shape_at}
+use Rattle.{xbar_match.proofs.OneCrosspoint.no_more-lt, xbar_plan.specs.Tables.Tables}
+use Rattle.xbar_jobs.specs.{Closing.{leave_effects, value_after, operation_of, other_opens, path_opens}, Keeping.{IsCovered, IsEffect}, Office.office}
+use Rattle.xbar_jobs.specs.declared.{decision.Decision.Decision, effect.Effect.{Effect, TheVariants.{Close, Open, SetBit, ClearBit}}, leave.Leave.Leave}
 
 -- a close sets bits of its switch's ten fields, and a member's bit is one of the first forty
 effect_fits : (effect : Effect) → IsEffect effect → FitsWord (operation_of effect)

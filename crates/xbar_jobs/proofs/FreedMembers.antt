@@ -1,33 +1,17 @@
 -- which members of the groups are busy before and after a call was let go
-use Rattle.std.proofs.Common.{◌≡◌, ℕ, ◌⊎◌, Bool, true, false, List, ◌∷◌, inl, inr, refl, sym, ◌∙◌, ap, subst}
-use Rattle.std.specs.Prelude.{Option, Some, None, not, option_and_then, option_to_list, if◌then◌else◌}
-use Rattle.std.specs.List.{list_all}
-use mathlib.Core.Bool.{true≢false}
-use Rattle.xbar_equip.specs.Among.{IsIn}
-use Rattle.xbar_equip.specs.Ten.{TrunkPlace, place_eq}
-use Rattle.xbar_equip.specs.Paths.{has_place, is_idle, without_path}
-use Rattle.xbar_equip.specs.declared.path.Path.{Path}
-use Rattle.xbar_equip.proofs.Lists.{all_pass, each_passes, found_passes}
-use Rattle.xbar_equip.proofs.PathSets.{in-without}
-use Rattle.xbar_equip.proofs.PathTests.{place_eq-exact}
-use Rattle.xbar_plan.specs.Group.{places, other_place}
-use Rattle.xbar_plan.specs.Tables.{Tables, member_at, member_place}
-use Rattle.xbar_plan.specs.Lawful.{IsLawful}
-use Rattle.xbar_plan.specs.declared.group.Member.{Member}
-use Rattle.xbar_plan.specs.declared.group.MemberPlace.{MemberPlace}
-use Rattle.xbar_plan.proofs.LawfulPlans.{one_member, stands_at-has, place_eq-itself}
-use Rattle.xbar_plan.proofs.MemberPlaces.{IsNamed, member_place-member}
-use Rattle.xbar_plan.proofs.OtherPlaces.{AreOthers, others}
-use Rattle.xbar_office.specs.LawfulSet.{IsLawfulSet}
-use Rattle.xbar_office.specs.Release.{without_other}
-use Rattle.xbar_office.specs.Standing.{path_at, other_path}
-use Rattle.xbar_office.proofs.ReleaseJobs.{own_gone, other_gone, others_stay}
-use Rattle.xbar_office.proofs.RemovedPaths.{busy-in}
-use Rattle.xbar_jobs.specs.Office.{is_busy_at}
-use Rattle.xbar_jobs.proofs.BusyMembers.{as_idle, busy_of}
+use Rattle.std.proofs.Common.{◌≡◌, ℕ, ◌⊎◌, Bool, true, false, List, ◌∷◌, inl, inr, refl, sym, ◌∙◌, ap, subst, Option, Some, None, not, option_and_then}
+use Rattle.std.proofs.Common.{option_to_list, if◌then◌else◌, true≢false}
+use Rattle.{std.specs.List.list_all, xbar_equip.specs.{Among.IsIn, Ten.{TrunkPlace, place_eq}, Paths.{has_place, is_idle, without_path}}}
+use Rattle.xbar_equip.{specs.declared.path.Path.Path, proofs.{Lists.{all_pass, each_passes, found_passes}, PathSets.in-without, PathTests.place_eq-exact}}
+use Rattle.xbar_plan.specs.{Group.{places, other_place}, Tables.{Tables, member_at, member_place}, Lawful.IsLawful, declared.group.Member.Member}
+use Rattle.xbar_plan.{specs.declared.group.MemberPlace.MemberPlace, proofs.LawfulPlans.{one_member, stands_at-has, place_eq-itself}}
+use Rattle.{xbar_plan.proofs.{MemberPlaces.{IsNamed, member_place-member}, OtherPlaces.{AreOthers, others}}, xbar_office.specs.LawfulSet.IsLawfulSet}
+use Rattle.xbar_office.{specs.{Release.without_other, Standing.{path_at, other_path}}, proofs.ReleaseJobs.{own_gone, other_gone, others_stay}}
+use Rattle.{xbar_office.proofs.RemovedPaths.busy-in, xbar_jobs.{specs.Office.is_busy_at, proofs.BusyMembers.{as_idle, busy_of}}}
 
 -- of a member's places, seen from one of them, each is that one or the other one
-two_places : (first : TrunkPlace) (second : Option TrunkPlace) (own place : TrunkPlace) (b : Bool) → place_eq first own ≡ b → IsIn own (first ∷ option_to_list second) → IsIn place (first ∷ option_to_list second)
+two_places : (first : TrunkPlace) (second : Option TrunkPlace) (own place : TrunkPlace) (b : Bool) → place_eq first own ≡ b
+    → IsIn own (first ∷ option_to_list second) → IsIn place (first ∷ option_to_list second)
     → (place ≡ own) ⊎ ((if b then second else Some first) ≡ Some place)
 two_places first second own place true e there (inl is) = inl (is ∙ (place_eq-exact first own).0 e)
 two_places first None own place true e there (inr none) = absurd none
@@ -45,7 +29,8 @@ one_fails : {A : Type 0} (test : A → Bool) (items : List A) (item : A) → IsI
 one_fails test items item within fails false e = refl
 one_fails test items item within fails true e = sym (each_passes test items item e within) ∙ fails
 
-module _ (plan : Tables) (paths : List Path) (own : Path) (found : MemberPlace) (laws : IsLawful plan) (lawful : IsLawfulSet plan paths) (within : IsIn own paths) (here : member_place plan own.place ≡ Some found) where
+module _ (plan : Tables) (paths : List Path) (own : Path) (found : MemberPlace) (laws : IsLawful plan) (lawful : IsLawfulSet plan paths)
+    (within : IsIn own paths) (here : member_place plan own.place ≡ Some found) where
   abbrev after : List Path
   after = without_other (without_path paths own) (other_path plan paths own)
 
@@ -88,12 +73,15 @@ module _ (plan : Tables) (paths : List Path) (own : Path) (found : MemberPlace) 
 
   -- each of the member's places is idle once both are gone
   idle_then : (place : TrunkPlace) → IsIn place (places named.member) → is_idle (has_place place) after ≡ true
-  idle_then place there = elim (two_places named.member.first named.member.second own.place place (place_eq named.member.first own.place) refl own_there there) [
-    | inl same ↦ subst (λ (p : TrunkPlace). is_idle (has_place p) after ≡ true) (sym same) (own_gone plan paths own laws lawful within (other_path plan paths own))
-    | inr beside ↦
-        subst (λ (other : Option Path). is_idle (has_place place) (without_other (without_path paths own) other) ≡ true) (sym (other_by (Some place) beside))
-        (other_gone plan paths own laws lawful within place (path_at paths place) refl)
-  ]
+  idle_then place there =
+      elim (two_places named.member.first named.member.second own.place place (place_eq named.member.first own.place) refl own_there there) [
+        | inl same ↦ subst (λ (p : TrunkPlace). is_idle (has_place p) after ≡ true) (sym same)
+            (own_gone plan paths own laws lawful within (other_path plan paths own))
+        | inr beside ↦
+            subst (λ (other : Option Path). is_idle (has_place place) (without_other (without_path paths own) other) ≡ true)
+            (sym (other_by (Some place) beside))
+            (other_gone plan paths own laws lawful within place (path_at paths place) refl)
+      ]
 
   -- so the member is not busy then
   pub freed_after : is_busy_at plan after found.group found.index ≡ false
@@ -103,12 +91,14 @@ module _ (plan : Tables) (paths : List Path) (own : Path) (found : MemberPlace) 
   pub busy_before : is_busy_at plan paths found.group found.index ≡ true
   busy_before =
       let busy : is_idle (has_place own.place) paths ≡ false = busy-in (has_place own.place) paths own within (place_eq-itself own.place) in
-      let one : list_all (λ place. is_idle (has_place place) paths) (places named.member) ≡ false = one_fails (λ place. is_idle (has_place place) paths) (places named.member) own.place own_there busy _ refl in
+      let one : list_all (λ place. is_idle (has_place place) paths) (places named.member) ≡ false =
+      one_fails (λ place. is_idle (has_place place) paths) (places named.member) own.place own_there busy _ refl in
       ap (busy_of paths) named.here ∙ ap not one
 
   -- a path at one of the member's places is at no place of another member
   not_there : (number at : ℕ) (member : Member) → member_at plan number at ≡ Some member → (number ≡ found.group → at ≡ found.index → ⊥)
-      → (place : TrunkPlace) → IsIn place (places member) → (path : Path) → IsIn path.place (places named.member) → (b : Bool) → has_place place path ≡ b → b ≡ false
+      → (place : TrunkPlace) → IsIn place (places member) → (path : Path) → IsIn path.place (places named.member) → (b : Bool) → has_place place path ≡ b
+      → b ≡ false
   not_there number at member listed other place there path its false e = refl
   not_there number at member listed other place there path its true e =
       let same : path.place ≡ place = (place_eq-exact path.place place).0 e in
@@ -119,7 +109,8 @@ module _ (plan : Tables) (paths : List Path) (own : Path) (found : MemberPlace) 
   -- and every other member is as busy as before
   pub others_as_before : (number at : ℕ) → (number ≡ found.group → at ≡ found.index → ⊥) → is_busy_at plan after number at ≡ is_busy_at plan paths number at
   others_as_before number at other = by (member_at plan number at) refl where
-    stay : (member : Member) → member_at plan number at ≡ Some member → (place : TrunkPlace) → IsIn place (places member) → is_idle (has_place place) after ≡ is_idle (has_place place) paths
+    stay : (member : Member) → member_at plan number at ≡ Some member → (place : TrunkPlace) → IsIn place (places member)
+        → is_idle (has_place place) after ≡ is_idle (has_place place) paths
     stay member listed place there =
         others_stay plan paths own laws lawful within place (other_path plan paths own)
         (not_there number at member listed other place there own own_there (has_place place own) refl)

@@ -1,34 +1,15 @@
 -- what may be let go and taken with these connectors held, and that its effects are covered then
-use Rattle.std.proofs.Common.{◌≡◌, ℕ, ◌+◌, ◌<◌, ◌≤◌, List, [], ◌∷◌, ◌++◌, length, map, inl, inr, refl, sym, subst, arith, length-append}
-use Rattle.std.specs.Prelude.{Option, Some, None, IfSome}
-use Rattle.std.specs.Option.{option_map_or}
-use Rattle.std.proofs.lemmas.Option.{IfSome_then}
-use Rattle.turns.specs.Among.{IsIn}
-use Rattle.turns.specs.System.{AreUnder, IsUnder}
-use Rattle.turns.proofs.Keeping.{AreAmong}
-use Rattle.turns.proofs.Lists.{in_either}
-use Rattle.xbar_equip.specs.Crosspoint.{crosspoints}
-use Rattle.xbar_equip.specs.Len.{Line, IsLine}
-use Rattle.xbar_equip.specs.Path.{IsPath}
-use Rattle.xbar_equip.specs.Ten.{TrunkPlace, IsTrunkPlace}
-use Rattle.xbar_equip.specs.declared.conn.Conn.{Conn}
-use Rattle.xbar_equip.specs.declared.conn.Conn.TheVariants.{Llf, Tlf, Group}
-use Rattle.xbar_equip.specs.declared.crosspoint.Crosspoint.{Crosspoint}
-use Rattle.xbar_equip.specs.declared.path.Path.{Path}
-use Rattle.xbar_plan.specs.Tables.{Tables}
-use Rattle.xbar_match.specs.Effects.{IsCrosspoint}
-use Rattle.xbar_match.proofs.PathEffects.{crosspoint_line, crosspoint_line_junctor, crosspoint_trunk_junctor, crosspoint_trunk, line_of, line_junctor_of, trunk_junctor_of, trunk_of}
-use Rattle.xbar_office.specs.declared.reply.End.{End}
-use Rattle.xbar_office.specs.declared.trial.CallPaths.{CallPaths}
-use Rattle.xbar_jobs.specs.Closing.{called_closes, effect_word, effects, leave_effects, leaving, other_opens, path_closes, path_opens, refused, released, take_effects}
-use Rattle.xbar_jobs.specs.Keeping.{IsEffect, AreEffects, IsCovered}
-use Rattle.xbar_jobs.specs.Office.{office}
-use Rattle.xbar_jobs.specs.Standing.{most_effects}
-use Rattle.xbar_jobs.specs.declared.decision.Decision.{Decision}
-use Rattle.xbar_jobs.specs.declared.effect.Effect.{Effect}
-use Rattle.xbar_jobs.specs.declared.effect.Effect.TheVariants.{Close, Open, SetBit, ClearBit}
-use Rattle.xbar_jobs.specs.declared.leave.Leave.{Leave}
-use Rattle.xbar_jobs.specs.declared.take.Take.{Take}
+use Rattle.std.proofs.Common.{◌≡◌, ℕ, ◌+◌, ◌<◌, ◌≤◌, List, [], ◌∷◌, ◌++◌, length, map, inl, inr, refl, sym, subst, arith, length-append, Option, Some, None}
+use Rattle.std.proofs.Common.{IfSome}
+use Rattle.{std.{specs.Option.option_map_or, proofs.lemmas.Option.IfSome_then}, turns.{specs.{Among.IsIn, System.{AreUnder, IsUnder}}, proofs.Keeping.AreAmong}}
+use Rattle.{turns.proofs.Lists.in_either, xbar_equip.specs.{Crosspoint.crosspoints, Len.{Line, IsLine}, Path.IsPath, Ten.{TrunkPlace, IsTrunkPlace}}}
+use Rattle.xbar_equip.specs.declared.{conn.Conn.{Conn, TheVariants.{Llf, Tlf, Group}}, crosspoint.Crosspoint.Crosspoint, path.Path.Path}
+use Rattle.{xbar_plan.specs.Tables.Tables, xbar_match.{specs.Effects.IsCrosspoint, proofs.PathEffects.{crosspoint_line, crosspoint_line_junctor}}}
+use Rattle.xbar_match.proofs.PathEffects.{crosspoint_trunk_junctor, crosspoint_trunk, line_of, line_junctor_of, trunk_junctor_of, trunk_of}
+use Rattle.{xbar_office.specs.declared.{reply.End.End, trial.CallPaths.CallPaths}, xbar_jobs.specs.Closing.{called_closes, effect_word, effects, leave_effects}}
+use Rattle.xbar_jobs.specs.{Closing.{leaving, other_opens, path_closes, path_opens, refused, released, take_effects}, Keeping.{IsEffect, AreEffects, IsCovered}}
+use Rattle.xbar_jobs.specs.{Office.office, Standing.most_effects, declared.{decision.Decision.Decision, effect.Effect.Effect}}
+use Rattle.xbar_jobs.specs.declared.{effect.Effect.TheVariants.{Close, Open, SetBit, ClearBit}, leave.Leave.Leave, take.Take.Take}
 use Rattle.xbar_jobs.proofs.HeldWords.{group_under, line_junctor_under, line_switch_under, trunk_junctor_under, trunk_switch_under}
 
 -- a line, a trunk place, a path between the two, and a member of a group: they are in range, and their connectors are held
@@ -96,7 +77,8 @@ module _ (plan : Tables) (held : List Conn) where
   none_covered : AreCovered plan held []
   none_covered = record { are = λ effect none. absurd none; under = λ effect none. absurd none }
 
-  first_covered : (effect : Effect) (others : List Effect) → IsEffect effect → IsUnder (office plan) held (effect_word effect) → AreCovered plan held others → AreCovered plan held (effect ∷ others)
+  first_covered : (effect : Effect) (others : List Effect) → IsEffect effect → IsUnder (office plan) held (effect_word effect) → AreCovered plan held others
+      → AreCovered plan held (effect ∷ others)
   first_covered first others is under covered = record { are = each; under = each_under } where
     each : AreEffects (first ∷ others)
     each effect (inl e) = subst IsEffect (sym e) is
@@ -113,16 +95,21 @@ module _ (plan : Tables) (held : List Conn) where
   }
 
   -- effects at a path's four crosspoints are covered, if the path is held
-  module _ (change : Crosspoint → Effect) (is : (c : Crosspoint) → IsCrosspoint c → IsEffect (change c)) (at : (c : Crosspoint) → IsUnder (office plan) held c.word → IsUnder (office plan) held (effect_word (change c))) where
+  module _ (change : Crosspoint → Effect) (is : (c : Crosspoint) → IsCrosspoint c → IsEffect (change c))
+      (at : (c : Crosspoint) → IsUnder (office plan) held c.word → IsUnder (office plan) held (effect_word (change c))) where
     path_covered : (path : Path) → IsHeldPath held path → AreCovered plan held (map change (crosspoints path))
     path_covered path own =
         let line = own.line in
         let place = own.place in
         let range : IsPath path = record { line = line.range; channel = own.channel; place = place.range } in
-        first_covered _ _ (is _ (crosspoint_line path range)) (at (line_of path) (line_switch_under plan held path.line.frame path.line.switch line.own line.range.frame line.range.switch))
-        (first_covered _ _ (is _ (crosspoint_line_junctor path range)) (at (line_junctor_of path) (line_junctor_under plan held path.line.frame path.channel line.own line.range.frame own.channel))
-        (first_covered _ _ (is _ (crosspoint_trunk_junctor path range)) (at (trunk_junctor_of path) (trunk_junctor_under plan held path.place.frame path.channel place.own place.range.frame own.channel))
-        (first_covered _ _ (is _ (crosspoint_trunk path range)) (at (trunk_of path) (trunk_switch_under plan held path.place.frame path.place.switch place.own place.range.frame place.range.switch))
+        first_covered _ _ (is _ (crosspoint_line path range))
+        (at (line_of path) (line_switch_under plan held path.line.frame path.line.switch line.own line.range.frame line.range.switch))
+        (first_covered _ _ (is _ (crosspoint_line_junctor path range))
+        (at (line_junctor_of path) (line_junctor_under plan held path.line.frame path.channel line.own line.range.frame own.channel))
+        (first_covered _ _ (is _ (crosspoint_trunk_junctor path range))
+        (at (trunk_junctor_of path) (trunk_junctor_under plan held path.place.frame path.channel place.own place.range.frame own.channel))
+        (first_covered _ _ (is _ (crosspoint_trunk path range))
+        (at (trunk_of path) (trunk_switch_under plan held path.place.frame path.place.switch place.own place.range.frame place.range.switch))
         none_covered)))
 
   closes_covered : (path : Path) → IsHeldPath held path → AreCovered plan held (path_closes path)
@@ -143,13 +130,15 @@ module _ (plan : Tables) (held : List Conn) where
   take_covered take own =
       let member = own.member in
       both_covered _ _ (closes_covered take.paths.calling own.paths.calling)
-      (both_covered _ _ (called_covered take.paths.called own.paths.called) (first_covered (SetBit take.group take.index) [] member.numbers (group_under plan held take.group member.own member.numbers.0) none_covered))
+      (both_covered _ _ (called_covered take.paths.called own.paths.called)
+      (first_covered (SetBit take.group take.index) [] member.numbers (group_under plan held take.group member.own member.numbers.0) none_covered))
 
   leave_covered : (leave : Leave) → IsHeldLeave held leave → AreCovered plan held (leave_effects leave)
   leave_covered leave own =
       let member = own.member in
       both_covered _ _ (opens_covered leave.own own.own)
-      (both_covered _ _ (other_covered leave.other own.other) (first_covered (ClearBit leave.group leave.index) [] member.numbers (group_under plan held leave.group member.own member.numbers.0) none_covered))
+      (both_covered _ _ (other_covered leave.other own.other)
+      (first_covered (ClearBit leave.group leave.index) [] member.numbers (group_under plan held leave.group member.own member.numbers.0) none_covered))
 
 -- a path has four effects, another one four more, and a member one
 take_few : (take : Take) → length (take_effects take) ≤ 9
@@ -178,7 +167,8 @@ none_left : (left : Option Leave) → left ≡ None → length (option_map_or le
 none_left None is = omega arith
 none_left (Some leave) is = absurd cc
 
-few_together : (most more : ℕ) (some others : List Effect) → length some ≤ most → length others ≤ more → most + more ≤ most_effects → length (some ++ others) ≤ most_effects
+few_together : (most more : ℕ) (some others : List Effect) → length some ≤ most → length others ≤ more → most + more ≤ most_effects
+    → length (some ++ others) ≤ most_effects
 few_together most more some others few few_others fit = let sum = length-append some others in omega arith
 
 -- a decision's effects are covered by what is held, and there is room for them
@@ -200,8 +190,10 @@ module _ (plan : Tables) (held : List Conn) where
   none_left_covered None is = none_covered plan held
   none_left_covered (Some leave) is = absurd cc
 
-  well_covered : (decision : Decision) → AreCovered plan held (option_map_or leave_effects decision.leave []) → AreCovered plan held (option_map_or take_effects decision.take []) → length (effects decision) ≤ most_effects → IsWellCovered plan held decision
-  well_covered decision left taken few = let all = both_covered plan held _ _ left taken in record { covered = record { effects = all.are; under = all.under }; few = few }
+  well_covered : (decision : Decision) → AreCovered plan held (option_map_or leave_effects decision.leave [])
+      → AreCovered plan held (option_map_or take_effects decision.take []) → length (effects decision) ≤ most_effects → IsWellCovered plan held decision
+  well_covered decision left taken few = let all = both_covered plan held _ _ left taken in
+      record { covered = record { effects = all.are; under = all.under }; few = few }
 
   -- what lets nothing go is well covered
   pub taking_covered : (decision : Decision) → IsTaking held decision → IsWellCovered plan held decision
@@ -210,7 +202,8 @@ module _ (plan : Tables) (held : List Conn) where
       (few_together 0 9 _ _ (none_left decision.leave taking.stays) (taken_few decision.take) (omega arith))
 
   -- and so is what lets go a member with one path first
-  pub leaving_covered : (leave : Leave) (decision : Decision) → leave.other ≡ None → IsHeldLeave held leave → IsTaking held decision → IsWellCovered plan held (leaving leave decision)
+  pub leaving_covered : (leave : Leave) (decision : Decision) → leave.other ≡ None → IsHeldLeave held leave → IsTaking held decision
+      → IsWellCovered plan held (leaving leave decision)
   leaving_covered leave decision alone own taking =
       well_covered (leaving leave decision) (leave_covered plan held leave own) (taken_covered decision.take taking.take)
       (few_together 5 9 (leave_effects leave) _ (leave_alone_few leave alone) (taken_few decision.take) (omega arith))

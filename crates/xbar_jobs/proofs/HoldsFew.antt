@@ -1,38 +1,18 @@
 -- what an attempt holds is few, whatever comes of its steps
-use Rattle.std.proofs.Common.{◌≡◌, ℕ, ◌-◌, ◌≤◌, Bool, true, false, List, [], ◌∷◌, ◌++◌, length, inl, inr, refl, sym, ◌∙◌, ap, subst, arith}
-use Rattle.std.specs.Prelude.{Option, Some, None, Result, Ok, Err}
-use Rattle.turns.specs.Seen.{AreReadWords}
-use Rattle.turns.specs.Attempt.{IsValidIn, begin_with, change, changed, walk_result, forgotten, giving_back, goes_on, operated, rest_of, restarted, restarted_in, seen_of}
+use Rattle.std.proofs.Common.{◌≡◌, ℕ, ◌-◌, ◌≤◌, Bool, true, false, List, [], ◌∷◌, ◌++◌, length, inl, inr, refl, sym, ◌∙◌, ap, subst, arith, Option, Some, None}
+use Rattle.std.proofs.Common.{Result, Ok, Err}
+use Rattle.turns.specs.{Seen.AreReadWords, Attempt.{IsValidIn, begin_with, change, changed, walk_result, forgotten, giving_back, goes_on, operated, rest_of}}
+use Rattle.turns.specs.Attempt.{restarted, restarted_in, seen_of}
 use Rattle.turns.specs.Script.{Ends, TestThen, SeizeThen, first_wanted, is_held, left, left_of_test, left_of_seizing, value_read, walk}
-use Rattle.turns.specs.declared.answer.Answer.{Answer}
-use Rattle.turns.specs.declared.answer.Answer.TheVariants.{Asked, Seized, Held, Preferred, Again, Value, Turn, Done}
+use Rattle.turns.specs.declared.answer.Answer.{Answer, TheVariants.{Asked, Seized, Held, Preferred, Again, Value, Turn, Done}}
+use Rattle.turns.specs.declared.{phase.Phase.TheVariants.{Requests, Turns, Withdraws, GivesBack, Operates}, reading.Reading.Reading}
+use Rattle.turns.{specs.declared.wanted.Wanted.TheVariants.{Seize, Test}, proofs.{Lists.{distinct_more, in_more}, Room.{Grows, held_before, held_last}}}
+use Rattle.{turns.proofs.{Room.{left_again, read_before}, Standing.wanted_lock}, xbar_equip.specs.{Conn.{IsConn, conn_eq}, declared.conn.Conn.Conn}}
+use Rattle.{xbar_equip.proofs.PathTests.conn_eq-itself, xbar_plan.specs.{Lawful.IsLawful, Tables.Tables}, xbar_office.specs.{Legal.IsJob, declared.job.Job.Job}}
+use Rattle.xbar_jobs.specs.{Attempt.{Attempt, Phase}, Jobs.{first_conn, script}, Office.office, Others.{SeizesOthers, others}, Script.{Script, Seen, Wanted}}
+use Rattle.xbar_jobs.specs.{Standing.{AreConns, HoldsFew, HoldsFewIn, most_held, most_others}, declared.{decision.Decision.Decision, effect.Effect.Effect}}
+use Rattle.xbar_jobs.proofs.{FewConns.{few_conns, others_with}, JobBounds.job_seizes, OfficeSystem.office_is, AskBounds.others_more, Wanting.wants_free}
 use Rattle.turns.specs.declared.phase.Phase.TheVariants as phases
-use Rattle.turns.specs.declared.phase.Phase.TheVariants.{Requests, Turns, Withdraws, GivesBack, Operates}
-use Rattle.turns.specs.declared.reading.Reading.{Reading}
-use Rattle.turns.specs.declared.wanted.Wanted.TheVariants.{Seize, Test}
-use Rattle.turns.proofs.Lists.{distinct_more, in_more}
-use Rattle.turns.proofs.Room.{Grows, held_before, held_last, left_again, read_before}
-use Rattle.turns.proofs.Standing.{wanted_lock}
-use Rattle.xbar_equip.specs.Conn.{IsConn, conn_eq}
-use Rattle.xbar_equip.specs.declared.conn.Conn.{Conn}
-use Rattle.xbar_equip.proofs.PathTests.{conn_eq-itself}
-use Rattle.xbar_plan.specs.Lawful.{IsLawful}
-use Rattle.xbar_plan.specs.Tables.{Tables}
-use Rattle.xbar_office.specs.Legal.{IsJob}
-use Rattle.xbar_office.specs.declared.job.Job.{Job}
-use Rattle.xbar_jobs.specs.Attempt.{Attempt, Phase}
-use Rattle.xbar_jobs.specs.Jobs.{first_conn, script}
-use Rattle.xbar_jobs.specs.Office.{office}
-use Rattle.xbar_jobs.specs.Others.{SeizesOthers, others}
-use Rattle.xbar_jobs.specs.Script.{Script, Seen, Wanted}
-use Rattle.xbar_jobs.specs.Standing.{AreConns, HoldsFew, HoldsFewIn, most_held, most_others}
-use Rattle.xbar_jobs.specs.declared.decision.Decision.{Decision}
-use Rattle.xbar_jobs.specs.declared.effect.Effect.{Effect}
-use Rattle.xbar_jobs.proofs.FewConns.{few_conns, others_with}
-use Rattle.xbar_jobs.proofs.JobBounds.{job_seizes}
-use Rattle.xbar_jobs.proofs.OfficeSystem.{office_is}
-use Rattle.xbar_jobs.proofs.AskBounds.{others_more}
-use Rattle.xbar_jobs.proofs.Wanting.{wants_free}
 
 -- a connector more among connectors of the office
 conns_with : (held more : List Conn) (conn : Conn) → more ≡ held ++ conn ∷ [] → AreConns held → IsConn conn → AreConns more
@@ -46,23 +26,26 @@ others_left : {A : Type 0} (seen : Seen) (most : ℕ) (script : Script A) → Se
     → SeizesOthers most (left conn_eq seen script)
 unfolding left SeizesOthers left_of_test left_of_seizing
 others_left seen most (Ends found) seizes = tt
-others_left {A} seen most (TestThen word script) seizes = at (value_read seen.readings word) (λ value. others_left seen most (script value) (seizes value)) where
-  at : (o : Option ℕ) → ((value : ℕ) → SeizesOthers most (left conn_eq seen (script value)))
-      → SeizesOthers most (left_of_test script (λ value. left conn_eq seen (script value)) word o)
-  at None later = seizes
-  at (Some value) later = later value
-others_left {A} seen most (SeizeThen conn script) (one, seizes) = at (is_held conn_eq seen.held conn) (others_left seen (most - others conn) script seizes) where
-  at : (b : Bool) → SeizesOthers (most - others conn) (left conn_eq seen script)
-      → SeizesOthers most (left_of_seizing script (left conn_eq seen script) conn b)
-  at false later = (one, seizes)
-  at true later = others_more (most - others conn) most (left conn_eq seen script) (omega arith) later
+others_left {A} seen most (TestThen word script) seizes =
+    at (value_read seen.readings word) (λ value. others_left seen most (script value) (seizes value)) where
+      at : (o : Option ℕ) → ((value : ℕ) → SeizesOthers most (left conn_eq seen (script value)))
+          → SeizesOthers most (left_of_test script (λ value. left conn_eq seen (script value)) word o)
+      at None later = seizes
+      at (Some value) later = later value
+others_left {A} seen most (SeizeThen conn script) (one, seizes) =
+    at (is_held conn_eq seen.held conn) (others_left seen (most - others conn) script seizes) where
+      at : (b : Bool) → SeizesOthers (most - others conn) (left conn_eq seen script)
+          → SeizesOthers most (left_of_seizing script (left conn_eq seen script) conn b)
+      at false later = (one, seizes)
+      at true later = others_more (most - others conn) most (left conn_eq seen script) (omega arith) later
 
 -- once more was read or seized, what is left then seizes no more
 others_grown : {A : Type 0} (seen more : Seen) (most : ℕ) (script : Script A)
     → Grows conn_eq conn_eq-itself seen more → SeizesOthers most (left conn_eq seen script)
     → SeizesOthers most (left conn_eq more script)
 others_grown {A} seen more most script grows seizes =
-    subst (λ (s : Script A). SeizesOthers most s) (sym (left_again conn_eq conn_eq-itself seen more script grows)) (others_left more most (left conn_eq seen script) seizes)
+    subst (λ (s : Script A). SeizesOthers most s) (sym (left_again conn_eq conn_eq-itself seen more script grows))
+    (others_left more most (left conn_eq seen script) seizes)
 
 -- and once the connector that was needed is held, it seizes one less
 others_seized : {A : Type 0} (seen more : Seen) (conn : Conn) (most : ℕ) (script rest : Script A)
@@ -75,7 +58,8 @@ others_seized {A} seen more conn most script (Ends found) grows own is wants sei
 others_seized {A} seen more conn most script (TestThen word rest) grows own is wants seizes = absurd cc
 others_seized {A} seen more conn most script (SeizeThen other rest) grows own is wants (one, seizes) =
     let same : other ≡ conn = cc in
-    let now : left conn_eq more script ≡ left conn_eq more rest = left_again conn_eq conn_eq-itself seen more script grows ∙ ap (left conn_eq more) is ∙ at same in (
+    let now : left conn_eq more script ≡ left conn_eq more rest =
+    left_again conn_eq conn_eq-itself seen more script grows ∙ ap (left conn_eq more) is ∙ at same in (
       subst (λ (c : Conn). others c ≤ most) same one,
       subst (λ (s : Script A). SeizesOthers (most - others conn) s) (sym now)
           (others_left more (most - others conn) rest (subst (λ (c : Conn). SeizesOthers (most - others c) rest) same seizes)),
@@ -94,12 +78,16 @@ module _ (plan : Tables) where
   }
 
   -- a connector more is a new one
-  pub holds_seized : (a : Attempt) (conn : Conn) → IsConn conn → walk_result (office plan) a ≡ Err (Seize conn) → HoldsFew plan a → HoldsFew plan (record a { held = a.held ++ conn ∷ [] })
+  pub holds_seized : (a : Attempt) (conn : Conn) → IsConn conn → walk_result (office plan) a ≡ Err (Seize conn) → HoldsFew plan a
+      → HoldsFew plan (record a { held = a.held ++ conn ∷ [] })
   unfolding walk
   holds_seized a conn range come holds =
       let more : Seen = record { held = a.held ++ conn ∷ []; readings = a.readings } in
-      let grows : Grows conn_eq conn_eq-itself (seen_of a) more = record { held = λ c e. held_before conn_eq conn_eq-itself a.held conn c e; readings = λ word value e. e } in
-      let later = others_seized (seen_of a) more conn holds.more (script plan a.job) (left conn_eq (seen_of a) (script plan a.job)) grows (held_last conn_eq conn_eq-itself a.held conn) refl come holds.seizes in
+      let grows : Grows conn_eq conn_eq-itself (seen_of a) more =
+      record { held = λ c e. held_before conn_eq conn_eq-itself a.held conn c e; readings = λ word value e. e } in
+      let later =
+      others_seized (seen_of a) more conn holds.more (script plan a.job) (left conn_eq (seen_of a) (script plan a.job)) grows
+      (held_last conn_eq conn_eq-itself a.held conn) refl come holds.seizes in
       record {
         conns = conns_with a.held more.held conn refl holds.conns range;
         distinct = distinct_more conn a.held holds.distinct (wants_free (seen_of a) conn (script plan a.job) come);
@@ -111,7 +99,8 @@ module _ (plan : Tables) where
   holds_read : (a : Attempt) (reading : Reading ℕ) → HoldsFew plan a → HoldsFew plan (record a { readings = a.readings ++ reading ∷ [] })
   holds_read a reading holds =
       let more : Seen = record { held = a.held; readings = a.readings ++ reading ∷ [] } in
-      let grows : Grows conn_eq conn_eq-itself (seen_of a) more = record { held = λ c e. e; readings = λ word value e. read_before conn_eq conn_eq-itself a.readings reading word value e } in
+      let grows : Grows conn_eq conn_eq-itself (seen_of a) more =
+      record { held = λ c e. e; readings = λ word value e. read_before conn_eq conn_eq-itself a.readings reading word value e } in
       record {
         conns = holds.conns;
         distinct = holds.distinct;

@@ -1,34 +1,31 @@
 -- a number's lines are hunted one after another
-use Rattle.std.proofs.Common.{◌≡◌, ℕ, ◌+◌, ◌<◌, ◌≤◌, Bool, true, false, List, length, drop, slice_index_or, refl, sym, ◌∙◌, ap}
-use Rattle.std.specs.Prelude.{Option, Some, None, Ok, Err, is_some}
-use Rattle.std.proofs.lemmas.List.{at_drop_all, at_drop_more}
-use Rattle.turns.specs.Script.{◌>>=◌}
-use Rattle.attempts.proofs.WalksOnWords.{live_end}
-use Rattle.xbar_equip.specs.Conn.{conn_eq}
-use Rattle.xbar_equip.specs.Len.{Line, line_eq}
-use Rattle.xbar_jobs.specs.Closing.{value_after}
-use Rattle.xbar_jobs.specs.Completing.{hunt, unless_busy, unless_calling}
-use Rattle.xbar_jobs.specs.Script.{WalkState, Script, Wanted, conn_word, walk_on_words}
-use Rattle.xbar_jobs.specs.Tracing.{approach, channel_of}
-use Rattle.xbar_jobs.specs.declared.effect.Effect.{Effect}
-use Rattle.xbar_jobs.specs.declared.party.Party.{Party}
-use Rattle.xbar_jobs.proofs.WalksOnWords.{comes, goes_on, stops}
+use Rattle.std.proofs.Common.{◌≡◌, ℕ, ◌+◌, ◌<◌, ◌≤◌, Bool, true, false, List, length, drop, slice_index_or, refl, sym, ◌∙◌, ap, Option, Some, None, Ok, Err}
+use Rattle.std.proofs.Common.{is_some}
+use Rattle.{std.proofs.lemmas.List.{at_drop_all, at_drop_more}, turns.specs.Script.◌>>=◌, attempts.proofs.WalksOnWords.live_end}
+use Rattle.xbar_equip.specs.{Conn.conn_eq, Len.{Line, line_eq}}
+use Rattle.xbar_jobs.specs.{Closing.value_after, Completing.{hunt, unless_busy, unless_calling}, Script.{WalkState, Script, Wanted, conn_word, walk_on_words}}
+use Rattle.xbar_jobs.{specs.{Tracing.{approach, channel_of}, declared.{effect.Effect.Effect, party.Party.Party}}, proofs.WalksOnWords.{comes, goes_on, stops}}
 
-module _ (made : List Effect) (calling : Line) (lines : List Line) (at : ℕ) (line : Line) (is : line ≡ slice_index_or lines at line) (below : at < length lines) (state : WalkState) (words : List ℕ) where
+module _ (made : List Effect) (calling : Line) (lines : List Line) (at : ℕ) (line : Line) (is : line ≡ slice_index_or lines at line) (below : at < length lines)
+    (state : WalkState) (words : List ℕ) where
   abbrev rest : Script (Option Party)
   rest = hunt calling (drop (at + 1) lines)
 
   turn : walk_on_words made (hunt calling (drop at lines)) state words ≡ walk_on_words made (unless_calling line rest (line_eq line calling)) state words
   unfolding hunt
-  turn = at_drop_more (λ (left : List Line). walk_on_words made (hunt calling left) state words) lines at line below ∙ ap (λ (l : Line). walk_on_words made (unless_calling l rest (line_eq l calling)) state words) (sym is)
+  turn =
+      at_drop_more (λ (left : List Line). walk_on_words made (hunt calling left) state words) lines at line below
+      ∙ ap (λ (l : Line). walk_on_words made (unless_calling l rest (line_eq l calling)) state words) (sym is)
 
   module _ (other : line_eq line calling ≡ false) where
-    approached : walk_on_words made (hunt calling (drop at lines)) state words ≡ walk_on_words made (approach line >>= λ party. unless_busy party rest (channel_of party)) state words
+    approached : walk_on_words made (hunt calling (drop at lines)) state words
+        ≡ walk_on_words made (approach line >>= λ party. unless_busy party rest (channel_of party)) state words
     unfolding unless_calling
     approached = turn ∙ ap (λ (b : Bool). walk_on_words made (unless_calling line rest b) state words) other
 
     -- a line that isn't the calling one is approached
-    pub hunt_stops : (wanted : Wanted) (more : WalkState) (after : List ℕ) → walk_on_words made (approach line) state words ≡ comes (Err wanted) more after → walk_on_words made (hunt calling (drop at lines)) state words ≡ comes (Err wanted) more after
+    pub hunt_stops : (wanted : Wanted) (more : WalkState) (after : List ℕ) → walk_on_words made (approach line) state words ≡ comes (Err wanted) more after
+        → walk_on_words made (hunt calling (drop at lines)) state words ≡ comes (Err wanted) more after
     hunt_stops wanted more after is = approached ∙ stops made (approach line) _ state more words after wanted is
 
     module _ (party : Party) (more : WalkState) (after : List ℕ) (come : walk_on_words made (approach line) state words ≡ comes (Ok party) more after) where
@@ -52,7 +49,8 @@ module _ (made : List Effect) (calling : Line) (lines : List Line) (at : ℕ) (l
         passed (Some channel) e = refl
 
 -- after the last line there is none
-pub none_hunted : (made : List Effect) (calling : Line) (lines : List Line) (at : ℕ) (state : WalkState) (words : List ℕ) → length lines ≤ at → walk_on_words made (hunt calling (drop at lines)) state words ≡ comes (Ok None) state words
+pub none_hunted : (made : List Effect) (calling : Line) (lines : List Line) (at : ℕ) (state : WalkState) (words : List ℕ) → length lines ≤ at
+    → walk_on_words made (hunt calling (drop at lines)) state words ≡ comes (Ok None) state words
 unfolding hunt
 none_hunted made calling lines at state words past =
     at_drop_all (λ (left : List Line). walk_on_words made (hunt calling left) state words) lines at past

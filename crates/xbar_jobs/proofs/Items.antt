@@ -1,6 +1,5 @@
 -- items of lists, by their places, and what is found
-use Rattle.std.proofs.Common.{◌≡◌, ℕ, zero, suc, ◌<◌, List, [], ◌∷◌, length, slice_index_or, inl, inr, refl, arith}
-use Rattle.std.specs.Prelude.{Option, Some, None, IfSome}
+use Rattle.std.proofs.Common.{◌≡◌, ℕ, zero, suc, ◌<◌, List, [], ◌∷◌, length, slice_index_or, inl, inr, refl, arith, Option, Some, None, IfSome}
 use Rattle.turns.specs.Among.{IsIn}
 
 -- what is at a place of a list is one of its items

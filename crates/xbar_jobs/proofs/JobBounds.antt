@@ -1,35 +1,14 @@
 -- how much each job asks for at most
-use Rattle.std.proofs.Common.{ℕ, ◌≤◌, List, [], ◌∷◌, ◌++◌, length, arith}
-use Rattle.std.specs.Prelude.{Option, Some, None}
-use Rattle.turns.specs.Bounds.{AreBounded, AllEndsHave}
-use Rattle.turns.specs.Script.{Ends, TestThen, SeizeThen, ◌>>=◌}
-use Rattle.turns.specs.System.{KeepsTo}
-use Rattle.xbar_equip.specs.Len.{Line}
-use Rattle.xbar_equip.specs.Ten.{TrunkPlace}
-use Rattle.xbar_equip.specs.declared.conn.Conn.{Conn}
-use Rattle.xbar_equip.specs.declared.path.Path.{Path}
-use Rattle.xbar_plan.specs.Lawful.{IsLawful}
-use Rattle.xbar_plan.specs.Tables.{Tables, member_place, register_group}
-use Rattle.xbar_plan.specs.declared.group.MemberPlace.{MemberPlace}
-use Rattle.xbar_office.specs.declared.aim.Aim.TheVariants.{DialTone}
-use Rattle.xbar_office.specs.declared.job.Job.{Job}
-use Rattle.xbar_office.specs.declared.job.Job.TheVariants.{Dial, Complete, Release}
-use Rattle.xbar_jobs.specs.Closing.{effects}
-use Rattle.xbar_jobs.specs.Connecting.{alone}
-use Rattle.xbar_jobs.specs.Jobs.{dial_steps, script, serve_idle_line}
-use Rattle.xbar_jobs.specs.Office.{office}
-use Rattle.xbar_jobs.specs.Others.{SeizesOthers}
-use Rattle.xbar_jobs.specs.Releasing.{release_from, release_member, release_steps, trace_other}
-use Rattle.xbar_jobs.specs.Script.{Script}
-use Rattle.xbar_jobs.specs.Standing.{most_effects, most_others, most_seizings, most_readings}
-use Rattle.xbar_jobs.specs.Tracing.{approach, channel_of, trace}
-use Rattle.xbar_jobs.specs.declared.party.Party.{Party}
-use Rattle.xbar_jobs.proofs.AskBounds.{Asks, asks_at_most, asks_end, asks_more, asks_then, seizes_others}
-use Rattle.xbar_jobs.proofs.JobKeeps.{job_keeps}
-use Rattle.xbar_jobs.proofs.HeldEffects.{IsWellCovered}
-use Rattle.xbar_jobs.proofs.TrialBounds.{connect_asks}
-use Rattle.xbar_jobs.proofs.CompleteBounds.{complete_asks}
-use Rattle.xbar_jobs.proofs.TracingBounds.{approach_asks, trace_asks, trace_back_asks}
+use Rattle.std.proofs.Common.{ℕ, ◌≤◌, List, [], ◌∷◌, ◌++◌, length, arith, Option, Some, None}
+use Rattle.turns.specs.{Bounds.{AreBounded, AllEndsHave}, Script.{Ends, TestThen, SeizeThen, ◌>>=◌}, System.KeepsTo}
+use Rattle.xbar_equip.specs.{Len.Line, Ten.TrunkPlace, declared.{conn.Conn.Conn, path.Path.Path}}
+use Rattle.xbar_plan.specs.{Lawful.IsLawful, Tables.{Tables, member_place, register_group}, declared.group.MemberPlace.MemberPlace}
+use Rattle.xbar_office.specs.declared.{aim.Aim.TheVariants.DialTone, job.Job.{Job, TheVariants.{Dial, Complete, Release}}}
+use Rattle.xbar_jobs.specs.{Closing.effects, Connecting.alone, Jobs.{dial_steps, script, serve_idle_line}, Office.office, Others.SeizesOthers}
+use Rattle.xbar_jobs.specs.{Releasing.{release_from, release_member, release_steps, trace_other}, Script.Script, Standing.{most_effects, most_others}}
+use Rattle.xbar_jobs.specs.{Standing.{most_seizings, most_readings}, Tracing.{approach, channel_of, trace}, declared.party.Party.Party}
+use Rattle.xbar_jobs.proofs.{AskBounds.{Asks, asks_at_most, asks_end, asks_more, asks_then, seizes_others}, JobKeeps.job_keeps, HeldEffects.IsWellCovered}
+use Rattle.xbar_jobs.proofs.{TrialBounds.connect_asks, CompleteBounds.complete_asks, TracingBounds.{approach_asks, trace_asks, trace_back_asks}}
 
 module _ (plan : Tables) where
   serve_asks : (calling : Party) (channel : Option ℕ) → Asks 25 3 3 (serve_idle_line plan calling channel)
@@ -75,7 +54,8 @@ pub job_seizes : (plan : Tables) (job : Job) → IsLawful plan → SeizesOthers 
 job_seizes plan job laws = seizes_others most_readings most_seizings most_others (script plan job) (script_asks plan job laws)
 
 -- what fits wherever a script ends holds of its ends
-pub ends_as_kept : (plan : Tables) {A : Type 0} (Fits : List Conn → A → Type 0) (Has : A → Type 0) (held : List Conn) (script : Script A) → ((conns : List Conn) (found : A) → Fits conns found → Has found) → KeepsTo (office plan) Fits held script → AllEndsHave Has script
+pub ends_as_kept : (plan : Tables) {A : Type 0} (Fits : List Conn → A → Type 0) (Has : A → Type 0) (held : List Conn) (script : Script A)
+    → ((conns : List Conn) (found : A) → Fits conns found → Has found) → KeepsTo (office plan) Fits held script → AllEndsHave Has script
 unfolding AllEndsHave KeepsTo
 ends_as_kept plan Fits Has held (Ends found) has keeps = has held found keeps
 ends_as_kept plan Fits Has held (TestThen word script) has keeps = λ value fits. ends_as_kept plan Fits Has held (script value) has (keeps.1 value fits)
@@ -85,5 +65,7 @@ ends_as_kept plan Fits Has held (SeizeThen conn script) has keeps = ends_as_kept
 pub jobs_bounded : (plan : Tables) → IsLawful plan → AreBounded (office plan) most_readings most_seizings most_effects
 jobs_bounded plan laws = record {
   asks = λ job in_range. asks_at_most most_readings most_seizings most_others (script plan job) (script_asks plan job laws);
-  effects = λ job in_range. ends_as_kept plan (IsWellCovered plan) (λ decision. length (effects decision) ≤ most_effects) [] (script plan job) (λ held decision good. good.few) (job_keeps plan laws job in_range);
+  effects =
+      λ job in_range. ends_as_kept plan (IsWellCovered plan) (λ decision. length (effects decision) ≤ most_effects) [] (script plan job)
+      (λ held decision good. good.few) (job_keeps plan laws job in_range);
 }

@@ -1,32 +1,13 @@
 -- each job's script tests only what is held by then, and what it decides is covered
-use Rattle.std.proofs.Common.{◌≡◌, ℕ, zero, suc, List, [], ◌∷◌, arith}
-use Rattle.std.specs.Prelude.{Option, Some, None}
-use Rattle.std.proofs.lemmas.Option.{slice_get_within}
-use Rattle.turns.specs.System.{KeepsTo}
-use Rattle.turns.proofs.Keeping.{keeps_map}
-use Rattle.xbar_equip.specs.Len.{Line, IsLine}
-use Rattle.xbar_equip.specs.declared.conn.Conn.{Conn}
-use Rattle.xbar_plan.specs.Lawful.{IsLawful}
-use Rattle.xbar_plan.specs.Tables.{Tables, register_group}
-use Rattle.xbar_plan.proofs.LawfulLookups.{register_group-is}
-use Rattle.xbar_office.specs.Legal.{IsJob}
-use Rattle.xbar_office.specs.Trunks.{AreGroups}
-use Rattle.xbar_office.specs.declared.aim.Aim.TheVariants.{DialTone}
-use Rattle.xbar_office.specs.declared.job.Job.{Job}
-use Rattle.xbar_office.specs.declared.job.Job.TheVariants.{Dial, Complete, Release}
-use Rattle.xbar_office.specs.declared.reply.End.TheVariants.{LineBusy}
-use Rattle.xbar_jobs.specs.Connecting.{alone}
-use Rattle.xbar_jobs.specs.Jobs.{dial_steps, script, serve_idle_line}
-use Rattle.xbar_jobs.specs.Keeping.{IsCovered}
-use Rattle.xbar_jobs.specs.Office.{office}
-use Rattle.xbar_jobs.specs.Tracing.{approach, channel_of}
+use Rattle.std.proofs.Common.{◌≡◌, ℕ, zero, suc, List, [], ◌∷◌, arith, Option, Some, None}
+use Rattle.{std.proofs.lemmas.Option.slice_get_within, turns.{specs.System.KeepsTo, proofs.Keeping.keeps_map}}
+use Rattle.{xbar_equip.specs.{Len.{Line, IsLine}, declared.conn.Conn.Conn}, xbar_plan.specs.{Lawful.IsLawful, Tables.{Tables, register_group}}}
+use Rattle.{xbar_plan.proofs.LawfulLookups.register_group-is, xbar_office.specs.{Legal.IsJob, Trunks.AreGroups, declared.aim.Aim.TheVariants.DialTone}}
+use Rattle.xbar_office.specs.declared.{job.Job.{Job, TheVariants.{Dial, Complete, Release}}, reply.End.TheVariants.LineBusy}
+use Rattle.xbar_jobs.specs.{Connecting.alone, Jobs.{dial_steps, script, serve_idle_line}, Keeping.IsCovered, Office.office, Tracing.{approach, channel_of}}
 use Rattle.xbar_jobs.specs.declared.party.Party.{Party}
-use Rattle.xbar_jobs.proofs.CompleteKeeps.{complete_keeps}
-use Rattle.xbar_jobs.proofs.ConnectKeeps.{connect_keeps}
-use Rattle.xbar_jobs.proofs.HeldEffects.{IsTaking, IsWellCovered, refused_takes, taking_covered}
-use Rattle.xbar_jobs.proofs.HeldWords.{keeps_then}
-use Rattle.xbar_jobs.proofs.ReleaseKeeps.{release_keeps}
-use Rattle.xbar_jobs.proofs.TracingKeeps.{HoldsLine, approach_keeps}
+use Rattle.xbar_jobs.proofs.{CompleteKeeps.complete_keeps, ConnectKeeps.connect_keeps, HeldEffects.{IsTaking, IsWellCovered, refused_takes, taking_covered}}
+use Rattle.xbar_jobs.proofs.{HeldWords.keeps_then, ReleaseKeeps.release_keeps, TracingKeeps.{HoldsLine, approach_keeps}}
 
 module _ (plan : Tables) (laws : IsLawful plan) where
   register_group_there : AreGroups plan (register_group plan ∷ [])
@@ -37,10 +18,12 @@ module _ (plan : Tables) (laws : IsLawful plan) where
       omega (arith, within, same)
   register_group_there (suc k) number is = absurd cc
 
-  serve_keeps : (held : List Conn) (calling : Party) (channel : Option ℕ) → HoldsLine held calling → KeepsTo (office plan) IsTaking held (serve_idle_line plan calling channel)
+  serve_keeps : (held : List Conn) (calling : Party) (channel : Option ℕ) → HoldsLine held calling
+      → KeepsTo (office plan) IsTaking held (serve_idle_line plan calling channel)
   unfolding KeepsTo serve_idle_line
   serve_keeps held calling (Some channel) own = refused_takes held LineBusy
-  serve_keeps held calling None own = connect_keeps plan laws held DialTone (alone calling) (register_group plan ∷ []) (record { calling = own; called = tt }) register_group_there
+  serve_keeps held calling None own =
+      connect_keeps plan laws held DialTone (alone calling) (register_group plan ∷ []) (record { calling = own; called = tt }) register_group_there
 
   dial_takes : (line : Line) → IsLine line → KeepsTo (office plan) IsTaking [] (dial_steps plan line)
   unfolding dial_steps
@@ -50,7 +33,9 @@ module _ (plan : Tables) (laws : IsLawful plan) where
 
   -- a dial tone job's script tests what is protected, and what it decides is covered
   pub dial_keeps : (line : Line) → IsLine line → KeepsTo (office plan) (IsWellCovered plan) [] (dial_steps plan line)
-  dial_keeps line range = keeps_map (office plan) IsTaking (IsWellCovered plan) [] (dial_steps plan line) (λ held decision taking. taking_covered plan held decision taking) (dial_takes line range)
+  dial_keeps line range =
+      keeps_map (office plan) IsTaking (IsWellCovered plan) [] (dial_steps plan line) (λ held decision taking. taking_covered plan held decision taking)
+      (dial_takes line range)
 
   -- and so does each job's script, with no more effects than there is room for
   pub job_keeps : (job : Job) → IsJob job → KeepsTo (office plan) (IsWellCovered plan) [] (script plan job)
@@ -60,4 +45,5 @@ module _ (plan : Tables) (laws : IsLawful plan) where
   job_keeps (Release line) range = release_keeps plan laws line range
 
 pub script_keeps : (plan : Tables) (job : Job) → IsLawful plan → IsJob job → KeepsTo (office plan) (IsCovered plan) [] (script plan job)
-script_keeps plan job laws range = keeps_map (office plan) (IsWellCovered plan) (IsCovered plan) [] (script plan job) (λ held decision good. good.covered) (job_keeps plan laws job range)
+script_keeps plan job laws range =
+    keeps_map (office plan) (IsWellCovered plan) (IsCovered plan) [] (script plan job) (λ held decision good. good.covered) (job_keeps plan laws job range)

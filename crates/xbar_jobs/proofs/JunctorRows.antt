@@ -1,36 +1,17 @@
 -- a frame's ten line junctor switches are tested one after another, whatever they show
-use Rattle.std.proofs.Common.{◌≡◌, ℕ, zero, suc, ◌+◌, List, [], ◌∷◌, ◌++◌, refl, sym, ◌∙◌, ap, subst, arith}
-use Rattle.std.specs.Prelude.{Option, Some, None, Bool, true, false, Err, ⊤, ◌==◌, find, option_map, slice_get, if◌then◌else◌}
-use Rattle.std.proofs.lemmas.Bool.{eqb-true}
-use Rattle.std.specs.Option.{option_map_or}
+use Rattle.std.proofs.Common.{◌≡◌, ℕ, zero, suc, ◌+◌, List, [], ◌∷◌, ◌++◌, refl, sym, ◌∙◌, ap, subst, arith, Option, Some, None, Bool, true, false, Err, ◌==◌}
+use Rattle.std.proofs.Common.{find, option_map, slice_get, if◌then◌else◌, eqb-true}
+use Rattle.std.specs.{Prelude.⊤, Option.option_map_or}
 use Rattle.turns.specs.Script.{Ends, TestThen, SeizeThen, ◌>>=◌, first_wanted, is_held, left, left_of_test, left_of_seizing, value_read, walk}
-use Rattle.turns.specs.declared.reading.Reading.{Reading}
-use Rattle.turns.specs.declared.wanted.Wanted.TheVariants.{Test}
-use Rattle.attempts.specs.Points.{GoesOnTo, seen_with}
-use Rattle.turns.proofs.Room.{Grows, left_again, read_last, read_before}
-use Rattle.xbar_equip.specs.Conn.{conn_eq}
-use Rattle.xbar_equip.specs.Len.{Line, IsLine}
-use Rattle.xbar_equip.specs.Ten.{TrunkPlace}
-use Rattle.xbar_equip.proofs.PathTests.{conn_eq-itself}
-use Rattle.xbar_switch.specs.declared.shape.Shape.TheVariants.{Line as LineShape}
-use Rattle.xbar_match.specs.Traces.{field_at_place}
-use Rattle.xbar_plan.specs.Tables.{Tables, register_group}
-use Rattle.xbar_plan.specs.declared.group.Member.{Member}
-use Rattle.xbar_office.specs.TwoTrials.{cards_of, second_decides}
-use Rattle.xbar_office.specs.declared.aim.Aim.{Aim}
-use Rattle.xbar_office.specs.declared.aim.Aim.TheVariants.{DialTone}
-use Rattle.xbar_office.specs.declared.reply.Card.{Card}
-use Rattle.xbar_office.specs.declared.trial.TrialEnd.{TrialEnd}
-use Rattle.xbar_office.specs.declared.trial.TrialEnd.TheVariants.{Chosen, Faulty, NoChannel}
-use Rattle.xbar_jobs.specs.Connecting.{alone, connect, try_trunk}
-use Rattle.xbar_jobs.specs.Jobs.{dial_steps, serve_idle_line}
-use Rattle.xbar_jobs.specs.Script.{Script, Seen}
-use Rattle.xbar_jobs.specs.Sides.{IsNextJunctor, Sides, reach, test_called, test_junctors, test_place, test_second, test_side, test_sides}
-use Rattle.xbar_jobs.specs.Tracing.{approach}
+use Rattle.turns.{specs.declared.{reading.Reading.Reading, wanted.Wanted.TheVariants.Test}, proofs.Room.{Grows, left_again, read_last, read_before}}
+use Rattle.{attempts.specs.Points.{GoesOnTo, seen_with}, xbar_equip.{specs.{Conn.conn_eq, Len.{Line, IsLine}, Ten.TrunkPlace}, proofs.PathTests.conn_eq-itself}}
+use Rattle.{xbar_switch.specs.declared.shape.Shape.TheVariants.{Line as LineShape}, xbar_match.specs.Traces.field_at_place}
+use Rattle.{xbar_plan.specs.{Tables.{Tables, register_group}, declared.group.Member.Member}, xbar_office.specs.TwoTrials.{cards_of, second_decides}}
+use Rattle.xbar_office.specs.declared.{aim.Aim.{Aim, TheVariants.DialTone}, reply.Card.Card, trial.TrialEnd.{TrialEnd, TheVariants.{Chosen, Faulty, NoChannel}}}
+use Rattle.xbar_jobs.specs.{Connecting.{alone, connect, try_trunk}, Jobs.{dial_steps, serve_idle_line}, Script.{Script, Seen}}
+use Rattle.xbar_jobs.specs.{Sides.{IsNextJunctor, Sides, reach, test_called, test_junctors, test_place, test_second, test_side, test_sides}, Tracing.approach}
 use Rattle.xbar_jobs.specs.Trials.{after_first_trial, first_trial_steps, next_clear, second_trial_at, second_trial_steps, trial_end, two_trials_steps}
-use Rattle.xbar_jobs.specs.Trunks.{Trunks, find_trunk, first_clear, idle_or, trunks_of}
-use Rattle.xbar_jobs.specs.declared.party.CallParties.{CallParties}
-use Rattle.xbar_jobs.specs.declared.party.Party.{Party}
+use Rattle.xbar_jobs.specs.{Trunks.{Trunks, find_trunk, first_clear, idle_or, trunks_of}, declared.party.{CallParties.CallParties, Party.Party}}
 use Rattle.xbar_jobs.specs.declared.trunks.IdleGroup.{IdleGroup}
 
 -- a script begins with the test of this word
@@ -43,7 +24,8 @@ BeginsWith number (SeizeThen conn script) = ⊥
 -- one, whatever it found: it keeps rows
 unfoldable pub KeepsRows : {A : Type 0} → Script A → Type 0
 KeepsRows (Ends found) = ⊤
-KeepsRows (TestThen word script) = ((next : ℕ) → IsNextJunctor word next → (value : ℕ) → BeginsWith next (script value)) × ((value : ℕ) → KeepsRows (script value))
+KeepsRows (TestThen word script) =
+    ((next : ℕ) → IsNextJunctor word next → (value : ℕ) → BeginsWith next (script value)) × ((value : ℕ) → KeepsRows (script value))
 KeepsRows (SeizeThen conn script) = KeepsRows script
 
 begins_bind : {A B : Type 0} (number : ℕ) (script : Script A) (next : A → Script B) → BeginsWith number script → BeginsWith number (script >>= next)
@@ -52,7 +34,8 @@ begins_bind number (Ends found) next begins = absurd begins
 begins_bind number (TestThen word script) next begins = begins
 begins_bind number (SeizeThen conn script) next begins = absurd begins
 
-pub rows_bind : {A B : Type 0} (script : Script A) (next : A → Script B) → KeepsRows script → ((found : A) → KeepsRows (next found)) → KeepsRows (script >>= next)
+pub rows_bind : {A B : Type 0} (script : Script A) (next : A → Script B) → KeepsRows script → ((found : A) → KeepsRows (next found))
+    → KeepsRows (script >>= next)
 unfolding KeepsRows ◌>>=◌
 rows_bind (Ends found) next rows later = later found
 rows_bind (TestThen word script) next rows later =
@@ -64,7 +47,8 @@ rows_left : {A : Type 0} (seen : Seen) (script : Script A) → KeepsRows script 
 unfolding KeepsRows left left_of_test left_of_seizing
 rows_left seen (Ends found) rows = rows
 rows_left seen (TestThen word script) rows = at (value_read seen.readings word) (λ value. rows_left seen (script value) (rows.1 value)) where
-  at : (o : Option ℕ) → ((value : ℕ) → KeepsRows (left conn_eq seen (script value))) → KeepsRows (left_of_test script (λ value. left conn_eq seen (script value)) word o)
+  at : (o : Option ℕ) → ((value : ℕ) → KeepsRows (left conn_eq seen (script value)))
+      → KeepsRows (left_of_test script (λ value. left conn_eq seen (script value)) word o)
   at None later = rows
   at (Some value) later = later value
 rows_left seen (SeizeThen conn script) rows = at (is_held conn_eq seen.held conn) (rows_left seen script rows) where
@@ -72,32 +56,42 @@ rows_left seen (SeizeThen conn script) rows = at (is_held conn_eq seen.held conn
   at false later = rows
   at true later = later
 
-begins_wanted : {A : Type 0} (more : Seen) (next : ℕ) (script : Script A) → BeginsWith next script → value_read more.readings next ≡ None → first_wanted (left conn_eq more script) ≡ Err (Test next)
+begins_wanted : {A : Type 0} (more : Seen) (next : ℕ) (script : Script A) → BeginsWith next script → value_read more.readings next ≡ None
+    → first_wanted (left conn_eq more script) ≡ Err (Test next)
 unfolding left left_of_test first_wanted
 begins_wanted more next (Ends found) begins unread = absurd begins
 begins_wanted more next (TestThen word rest) begins unread = rw (ap (value_read more.readings) begins ∙ unread) (ap (λ (n : ℕ). Err (Test n)) begins)
 begins_wanted more next (SeizeThen conn rest) begins unread = absurd begins
 
-goes_on_at : {A : Type 0} (more : Seen) (number next : ℕ) (rest : Script A) → KeepsRows rest → IsNextJunctor number next → (value : ℕ) × (value_read more.readings number ≡ Some value) → value_read more.readings next ≡ None → first_wanted rest ≡ Err (Test number) → first_wanted (left conn_eq more rest) ≡ Err (Test next)
+goes_on_at : {A : Type 0} (more : Seen) (number next : ℕ) (rest : Script A) → KeepsRows rest → IsNextJunctor number next
+    → (value : ℕ) × (value_read more.readings number ≡ Some value) → value_read more.readings next ≡ None → first_wanted rest ≡ Err (Test number)
+    → first_wanted (left conn_eq more rest) ≡ Err (Test next)
 unfolding KeepsRows left left_of_test first_wanted
 goes_on_at more number next (Ends found) rows is own unread wants = absurd cc
 goes_on_at more number next (SeizeThen conn rest) rows is own unread wants = absurd cc
 goes_on_at {A} more number next (TestThen word rest) rows is own unread wants =
     let same : word ≡ number = cc in
-    rw (ap (value_read more.readings) same ∙ own.1) (begins_wanted more next (rest own.0) (rows.0 next (subst (λ (n : ℕ). IsNextJunctor n next) (sym same) is) own.0) unread)
+    rw (ap (value_read more.readings) same
+    ∙ own.1) (begins_wanted more next (rest own.0) (rows.0 next (subst (λ (n : ℕ). IsNextJunctor n next) (sym same) is) own.0) unread)
 
 -- once a line junctor switch was read, the next one is needed next, if it was not read before
-next_is_wanted : {A : Type 0} (seen more : Seen) (number next : ℕ) (script : Script A) → KeepsRows script → Grows conn_eq conn_eq-itself seen more → IsNextJunctor number next → (value : ℕ) × (value_read more.readings number ≡ Some value) → value_read more.readings next ≡ None → walk conn_eq seen script ≡ Err (Test number) → walk conn_eq more script ≡ Err (Test next)
+next_is_wanted : {A : Type 0} (seen more : Seen) (number next : ℕ) (script : Script A) → KeepsRows script → Grows conn_eq conn_eq-itself seen more
+    → IsNextJunctor number next → (value : ℕ) × (value_read more.readings number ≡ Some value) → value_read more.readings next ≡ None
+    → walk conn_eq seen script ≡ Err (Test number) → walk conn_eq more script ≡ Err (Test next)
 unfolding walk
 next_is_wanted seen more number next script rows grows is own unread wants =
-    ap first_wanted (left_again conn_eq conn_eq-itself seen more script grows) ∙ goes_on_at more number next (left conn_eq seen script) (rows_left seen script rows) is own unread wants
+    ap first_wanted (left_again conn_eq conn_eq-itself seen more script grows)
+    ∙ goes_on_at more number next (left conn_eq seen script) (rows_left seen script rows) is own unread wants
 
 -- a word that was not read was not read either once another was
-unread_more : (readings : List (Reading ℕ)) (last : Reading ℕ) (next : ℕ) → (last.word == next) ≡ false → value_read readings next ≡ None → value_read (readings ++ last ∷ []) next ≡ None
+unread_more : (readings : List (Reading ℕ)) (last : Reading ℕ) (next : ℕ) → (last.word == next) ≡ false → value_read readings next ≡ None
+    → value_read (readings ++ last ∷ []) next ≡ None
 unfolding value_read
 unread_more [] last next other unread = ap (λ b. option_map (λ (r : Reading ℕ). r.value) (if b then Some last else None)) other
 unread_more (reading ∷ readings) last next other unread = at (reading.word == next) (unread_more readings last next other) unread where
-  at : (b : Bool) → (value_read readings next ≡ None → value_read (readings ++ last ∷ []) next ≡ None) → option_map (λ (r : Reading ℕ). r.value) (if b then Some reading else find (λ (r : Reading ℕ). r.word == next) readings) ≡ None → option_map (λ (r : Reading ℕ). r.value) (if b then Some reading else find (λ (r : Reading ℕ). r.word == next) (readings ++ last ∷ [])) ≡ None
+  at : (b : Bool) → (value_read readings next ≡ None → value_read (readings ++ last ∷ []) next ≡ None)
+      → option_map (λ (r : Reading ℕ). r.value) (if b then Some reading else find (λ (r : Reading ℕ). r.word == next) readings) ≡ None
+      → option_map (λ (r : Reading ℕ). r.value) (if b then Some reading else find (λ (r : Reading ℕ). r.word == next) (readings ++ last ∷ [])) ≡ None
   at true later none = none
   at false later none = later none
 
@@ -109,11 +103,14 @@ next_is_other number next is = at (number == next) refl where
 
 -- so if a script keeps rows and its walk needs a line junctor switch, it goes on to the next one,
 -- whatever the first shows
-pub row_goes_on : {A : Type 0} (seen : Seen) (word next : ℕ) (script : Script A) → KeepsRows script → IsNextJunctor word next → value_read seen.readings next ≡ None → walk conn_eq seen script ≡ Err (Test word) → GoesOnTo conn_eq seen script word next
+pub row_goes_on : {A : Type 0} (seen : Seen) (word next : ℕ) (script : Script A) → KeepsRows script → IsNextJunctor word next
+    → value_read seen.readings next ≡ None → walk conn_eq seen script ≡ Err (Test word) → GoesOnTo conn_eq seen script word next
 row_goes_on seen word next script rows is unread wants = λ value.
     let last : Reading ℕ = record { word = word; value = value } in
-    let grows : Grows conn_eq conn_eq-itself seen (seen_with seen word value) = record { held = λ c e. e; readings = λ w v e. read_before conn_eq conn_eq-itself seen.readings last w v e } in
-    next_is_wanted seen (seen_with seen word value) word next script rows grows is (read_last conn_eq conn_eq-itself seen.readings last) (unread_more seen.readings last next (next_is_other word next is) unread) wants
+    let grows : Grows conn_eq conn_eq-itself seen (seen_with seen word value) =
+    record { held = λ c e. e; readings = λ w v e. read_before conn_eq conn_eq-itself seen.readings last w v e } in
+    next_is_wanted seen (seen_with seen word value) word next script rows grows is (read_last conn_eq conn_eq-itself seen.readings last)
+    (unread_more seen.readings last next (next_is_other word next is) unread) wants
 
 junctor_rows : (frame channel count : ℕ) → channel + count ≡ 10 → KeepsRows (test_junctors frame channel count)
 unfolding KeepsRows test_junctors ◌>>=◌
@@ -121,7 +118,8 @@ junctor_rows frame channel zero sum = tt
 junctor_rows frame channel (suc zero) sum = (λ next is value. absurd (omega (arith, is.this, is.channel_range)), λ value. tt)
 junctor_rows frame channel (suc (suc count)) sum = (
   λ next is value. omega (arith, is.this, is.that, is.channel_range),
-  λ value. rows_bind (test_junctors frame (channel + 1) (suc count)) (λ words. Ends (value ∷ words)) (junctor_rows frame (channel + 1) (suc count) (omega arith)) (λ words. tt),
+  λ value. rows_bind (test_junctors frame (channel + 1) (suc count)) (λ words. Ends (value ∷ words))
+      (junctor_rows frame (channel + 1) (suc count) (omega arith)) (λ words. tt),
 )
 
 -- the tests of both sides keep rows
@@ -136,7 +134,9 @@ called_rows (Some party) = rows_bind (test_side party) _ (side_rows party) (λ s
 
 sides_rows : (parties : CallParties) → KeepsRows (test_sides parties)
 unfolding KeepsRows test_sides
-sides_rows parties = rows_bind (test_side parties.calling) _ (side_rows parties.calling) (λ calling. rows_bind (test_called parties.called) _ (called_rows parties.called) (λ called. tt))
+sides_rows parties =
+    rows_bind (test_side parties.calling) _ (side_rows parties.calling)
+    (λ calling. rows_bind (test_called parties.called) _ (called_rows parties.called) (λ called. tt))
 
 -- no row begins with a trunk switch
 place_rows : (place : TrunkPlace) → KeepsRows (test_place place)
@@ -194,7 +194,8 @@ try_rows : (plan : Tables) (aim : Aim) (parties : CallParties) (idle : Option Id
 unfolding KeepsRows try_trunk
 try_rows plan aim parties None = tt
 try_rows plan aim parties (Some idle) =
-    rows_bind (two_trials_steps plan parties (trunks_of plan idle.group idle.word) idle.first) _ (trials_rows plan parties (trunks_of plan idle.group idle.word) idle.first) (λ trials. tt)
+    rows_bind (two_trials_steps plan parties (trunks_of plan idle.group idle.word) idle.first) _
+    (trials_rows plan parties (trunks_of plan idle.group idle.word) idle.first) (λ trials. tt)
 
 -- whatever the parties and the groups are, connecting them keeps rows
 pub connect_rows : (plan : Tables) (aim : Aim) (parties : CallParties) (groups : List ℕ) → KeepsRows (connect plan aim parties groups)

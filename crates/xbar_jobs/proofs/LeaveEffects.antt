@@ -1,37 +1,16 @@
 -- what the effects that let a call go make of words that show a set with it
-use Rattle.std.proofs.Common.{◌≡◌, ℕ, ◌+◌, ◌-◌, ◌^◌, ◌<◌, ◌≤◌, false, List, [], ◌∷◌, ◌++◌, length, inl, inr, refl, sym, ◌∙◌, ap, subst, arith, bit_and}
-use Rattle.std.specs.Prelude.{Option, Some, None, is_some, option_and_then, slice_index, if◌then◌else◌}
-use Rattle.std.specs.Int.{bit_at}
-use Rattle.std.proofs.lemmas.Bool.{cases_eq, cases_lt}
-use mathlib.Core.Bool.{true≢false}
-use Rattle.turns.specs.System.{AreDue, perform, perform_all}
-use Rattle.xbar_equip.specs.Among.{IsIn}
-use Rattle.xbar_equip.specs.Ten.{TrunkPlace}
-use Rattle.xbar_equip.specs.Paths.{without_path}
-use Rattle.xbar_equip.specs.Word.{GroupWord}
-use Rattle.xbar_equip.specs.declared.path.Path.{Path}
-use Rattle.xbar_plan.specs.Tables.{Tables, member_at, member_place, register_group}
-use Rattle.xbar_plan.specs.Lawful.{IsLawful}
-use Rattle.xbar_plan.specs.declared.group.Member.{Member}
-use Rattle.xbar_plan.specs.declared.group.MemberPlace.{MemberPlace}
-use Rattle.xbar_plan.proofs.LawfulPlans.{member-numbers}
-use Rattle.xbar_plan.proofs.MemberPlaces.{member_place-member, member_place-numbers}
-use Rattle.xbar_plan.proofs.OtherPlaces.{other-paired}
-use Rattle.xbar_match.specs.Switches.{word_of}
-use Rattle.xbar_office.specs.Release.{without_other}
-use Rattle.xbar_office.specs.Standing.{path_at, other_path}
-use Rattle.xbar_office.proofs.DialJobs.{single_register}
-use Rattle.xbar_office.proofs.ReleaseJobs.{lawful-released}
-use Rattle.xbar_office.proofs.RemovedPaths.{orderly-without}
-use Rattle.xbar_jobs.specs.Closing.{path_opens, other_opens, leave_effects, leave_of, IsDue}
-use Rattle.xbar_jobs.specs.Office.{is_busy_at, GroupShows, ShowsOffice, office}
-use Rattle.xbar_jobs.specs.declared.effect.Effect.{Effect}
-use Rattle.xbar_jobs.specs.declared.effect.Effect.TheVariants.{ClearBit}
-use Rattle.xbar_jobs.specs.declared.leave.Leave.{Leave}
-use Rattle.xbar_jobs.proofs.BusyMembers.{busy_of}
-use Rattle.xbar_jobs.proofs.ClearedBits.{bit-cleared, bit-uncleared, bit-past}
-use Rattle.xbar_jobs.proofs.FreedMembers.{busy_before, freed_after, other_stays, others_as_before}
-use Rattle.xbar_jobs.proofs.OpenedPaths.{one_opened, other_opened}
+use Rattle.std.proofs.Common.{◌≡◌, ℕ, ◌+◌, ◌-◌, ◌^◌, ◌<◌, ◌≤◌, false, List, [], ◌∷◌, ◌++◌, length, inl, inr, refl, sym, ◌∙◌, ap, subst, arith, bit_and, Option}
+use Rattle.std.proofs.Common.{Some, None, is_some, option_and_then, slice_index, if◌then◌else◌, true≢false}
+use Rattle.{std.{specs.Int.bit_at, proofs.lemmas.Bool.{cases_eq, cases_lt}}, turns.specs.System.{AreDue, perform, perform_all}}
+use Rattle.xbar_equip.specs.{Among.IsIn, Ten.TrunkPlace, Paths.without_path, Word.GroupWord, declared.path.Path.Path}
+use Rattle.xbar_plan.specs.{Tables.{Tables, member_at, member_place, register_group}, Lawful.IsLawful, declared.group.{Member.Member, MemberPlace.MemberPlace}}
+use Rattle.xbar_plan.proofs.{LawfulPlans.member-numbers, MemberPlaces.{member_place-member, member_place-numbers}, OtherPlaces.other-paired}
+use Rattle.{xbar_match.specs.Switches.word_of, xbar_office.specs.{Release.without_other, Standing.{path_at, other_path}}}
+use Rattle.xbar_office.proofs.{DialJobs.single_register, ReleaseJobs.lawful-released, RemovedPaths.orderly-without}
+use Rattle.xbar_jobs.specs.{Closing.{path_opens, other_opens, leave_effects, leave_of, IsDue}, Office.{is_busy_at, GroupShows, ShowsOffice, office}}
+use Rattle.xbar_jobs.specs.declared.{effect.Effect.{Effect, TheVariants.ClearBit}, leave.Leave.Leave}
+use Rattle.xbar_jobs.proofs.{BusyMembers.busy_of, ClearedBits.{bit-cleared, bit-uncleared, bit-past}}
+use Rattle.xbar_jobs.proofs.{FreedMembers.{busy_before, freed_after, other_stays, others_as_before}, OpenedPaths.{one_opened, other_opened}}
 use Rattle.xbar_jobs.proofs.TakenMembers.{Adds as LeadsTo, group_kept, member_shows, more_added as both_opened, due-append, perform_all-append}
 
 -- a call of the set that is let go: its own path, the member at whose place that ends, and the other party's path
@@ -54,7 +33,8 @@ idle-past plan paths number at laws past = by (member_at plan number at) refl wh
   by None listed = refl
   by (Some member) listed = absurd (omega (arith, (member-numbers plan laws number at member listed).1))
 
-module _ (plan : Tables) (words : List ℕ) (paths : List Path) (own : Path) (found : MemberPlace) (laws : IsLawful plan) (long : 453 ≤ length words) (shows : ShowsOffice plan words paths)
+module _ (plan : Tables) (words : List ℕ) (paths : List Path) (own : Path) (found : MemberPlace) (laws : IsLawful plan) (long : 453 ≤ length words)
+    (shows : ShowsOffice plan words paths)
     (within : IsIn own paths) (here : member_place plan own.place ≡ Some found) where
   abbrev other : Option Path
   other = other_path plan paths own
@@ -135,37 +115,44 @@ module _ (plan : Tables) (words : List ℕ) (paths : List Path) (own : Path) (fo
   effects_due = due-append plan words opens (ClearBit found.group found.index ∷ []) call_opened.due (bit_was_set, tt)
 
 -- a call that is let go is determined by its own path and its member's place
-pub leave_is : (plan : Tables) (paths : List Path) (leave : Leave) (is : IsLeave plan paths leave) → leave ≡ leave_of leave.own (other_path plan paths leave.own) is.found
+pub leave_is : (plan : Tables) (paths : List Path) (leave : Leave) (is : IsLeave plan paths leave)
+    → leave ≡ leave_of leave.own (other_path plan paths leave.own) is.found
 leave_is plan paths leave is = λ i. record { group = is.group i; index = is.index i; own = leave.own; other = is.other i }
 
 -- so its effects show the set without its paths
-pub leave_shows : (plan : Tables) (words : List ℕ) (paths : List Path) (leave : Leave) → IsLawful plan → 453 ≤ length words → ShowsOffice plan words paths → IsLeave plan paths leave
+pub leave_shows : (plan : Tables) (words : List ℕ) (paths : List Path) (leave : Leave) → IsLawful plan → 453 ≤ length words → ShowsOffice plan words paths
+    → IsLeave plan paths leave
     → ShowsOffice plan (perform_all (office plan) words (leave_effects leave)) (left paths leave)
 leave_shows plan words paths leave laws long shows is =
     subst (λ (l : Leave). ShowsOffice plan (perform_all (office plan) words (leave_effects l)) (left paths l)) (sym (leave_is plan paths leave is))
     (effects_show plan words paths leave.own is.found laws long shows is.within is.here)
 
 -- and each is due when it is made
-pub leave_due : (plan : Tables) (words : List ℕ) (paths : List Path) (leave : Leave) → IsLawful plan → 453 ≤ length words → ShowsOffice plan words paths → IsLeave plan paths leave
+pub leave_due : (plan : Tables) (words : List ℕ) (paths : List Path) (leave : Leave) → IsLawful plan → 453 ≤ length words → ShowsOffice plan words paths
+    → IsLeave plan paths leave
     → AreDue (office plan) words (leave_effects leave)
 leave_due plan words paths leave laws long shows is =
     subst (λ (l : Leave). AreDue (office plan) words (leave_effects l)) (sym (leave_is plan paths leave is))
     (effects_due plan words paths leave.own is.found laws long shows is.within is.here)
 
 -- a register has one place, so the path that ends there is let go alone
-pub register_leave : (plan : Tables) (paths : List Path) (own : Path) (found : MemberPlace) → IsLawful plan → IsIn own paths → member_place plan own.place ≡ Some found
+pub register_leave : (plan : Tables) (paths : List Path) (own : Path) (found : MemberPlace) → IsLawful plan → IsIn own paths
+    → member_place plan own.place ≡ Some found
     → found.group ≡ register_group plan → IsLeave plan paths (leave_of own None found)
-register_leave plan paths own found laws within here group = record { within = within; found = found; here = here; group = refl; index = refl; other = alone } where
-  single : is_some found.other ≡ false
-  single =
-      let named = member_place-member plan own.place found here in
-      ap is_some named.other
-      ∙ other-paired plan laws found.group found.index named.member own.place named.here named.stands
-      ∙ single_register plan laws found.index named.member (ap (λ (g : ℕ). member_at plan g found.index) (sym group) ∙ named.here)
+register_leave plan paths own found laws within here group =
+    record { within = within; found = found; here = here; group = refl; index = refl; other = alone } where
+      single : is_some found.other ≡ false
+      single =
+          let named = member_place-member plan own.place found here in
+          ap is_some named.other
+          ∙ other-paired plan laws found.group found.index named.member own.place named.here named.stands
+          ∙ single_register plan laws found.index named.member (ap (λ (g : ℕ). member_at plan g found.index) (sym group) ∙ named.here)
 
-  none_beside : (seen : Option TrunkPlace) → is_some seen ≡ false → option_and_then (path_at paths) seen ≡ None
-  none_beside None e = refl
-  none_beside (Some place) e = absurd (true≢false e)
+      none_beside : (seen : Option TrunkPlace) → is_some seen ≡ false → option_and_then (path_at paths) seen ≡ None
+      none_beside None e = refl
+      none_beside (Some place) e = absurd (true≢false e)
 
-  alone : None ≡ other_path plan paths own
-  alone = sym (ap (λ (o : Option MemberPlace). option_and_then (path_at paths) (option_and_then (λ member. member.other) o)) here ∙ none_beside found.other single)
+      alone : None ≡ other_path plan paths own
+      alone =
+          sym (ap (λ (o : Option MemberPlace). option_and_then (path_at paths) (option_and_then (λ member. member.other) o)) here
+          ∙ none_beside found.other single)

@@ -54,6 +54,7 @@ pub mod AttemptStands
 pub mod Counts
 pub mod StepActs
 pub mod PastTurn
+pub mod StepsMade
 pub mod JunctorRows
 pub mod CompletingRows
 pub mod TracedWalks

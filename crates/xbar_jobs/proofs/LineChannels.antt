@@ -1,20 +1,9 @@
 -- whether a line is in a path of a set, by its word in words that show the set
-use Rattle.std.proofs.Common.{◌≡◌, ℕ, true, false, List, sym, ◌∙◌, ap, subst}
-use Rattle.std.specs.Prelude.{Some, None, find}
-use mathlib.Core.Bool.{true≢false}
-use Rattle.xbar_equip.specs.Len.{Line}
-use Rattle.xbar_equip.specs.Paths.{has_line, is_idle}
-use Rattle.xbar_equip.specs.Word.{LineSwitch}
-use Rattle.xbar_equip.specs.declared.path.Path.{Path}
-use Rattle.xbar_equip.proofs.PathTests.{idle-none, none-idle, line_eq-exact}
-use Rattle.xbar_switch.specs.declared.shape.Shape.TheVariants.{Line as LineShape}
-use Rattle.xbar_match.specs.Switches.{word_of}
-use Rattle.xbar_match.specs.Traces.{field_at_place}
-use Rattle.xbar_match.proofs.TracedPaths.{Found, One, NoOne, find-found, line_field-none, line_field-path}
-use Rattle.xbar_plan.specs.Tables.{Tables}
-use Rattle.xbar_jobs.specs.Office.{ShowsOffice}
-use Rattle.xbar_jobs.specs.Tracing.{channel_of}
-use Rattle.xbar_jobs.specs.declared.party.Party.{Party}
+use Rattle.std.proofs.Common.{◌≡◌, ℕ, true, false, List, sym, ◌∙◌, ap, subst, Some, None, find, true≢false}
+use Rattle.xbar_equip.specs.{Len.Line, Paths.{has_line, is_idle}, Word.LineSwitch, declared.path.Path.Path}
+use Rattle.{xbar_equip.proofs.PathTests.{idle-none, none-idle, line_eq-exact}, xbar_switch.specs.declared.shape.Shape.TheVariants.{Line as LineShape}}
+use Rattle.xbar_match.{specs.{Switches.word_of, Traces.field_at_place}, proofs.TracedPaths.{Found, One, NoOne, find-found, line_field-none, line_field-path}}
+use Rattle.{xbar_plan.specs.Tables.Tables, xbar_jobs.specs.{Office.ShowsOffice, Tracing.channel_of, declared.party.Party.Party}}
 use Rattle.xbar_jobs.proofs.TestedParties.{TestedOn}
 
 module _ (plan : Tables) (words : List ℕ) (paths : List Path) (shows : ShowsOffice plan words paths) (party : Party) (tested : TestedOn words party) where
@@ -23,7 +12,8 @@ module _ (plan : Tables) (words : List ℕ) (paths : List Path) (shows : ShowsOf
 
   -- an idle line has no channel
   pub idle_channel : is_idle (has_line party.line) paths ≡ true → channel_of party ≡ None
-  idle_channel idle = by_word ∙ line_field-none words paths party.line shows.switches shows.lawful.orderly.ranges tested.line (none-idle (has_line party.line) paths idle)
+  idle_channel idle =
+      by_word ∙ line_field-none words paths party.line shows.switches shows.lawful.orderly.ranges tested.line (none-idle (has_line party.line) paths idle)
 
   -- and a line with a path has that path's
   pub busy_channel : is_idle (has_line party.line) paths ≡ false → (channel : ℕ) × (channel_of party ≡ Some channel)
@@ -31,6 +21,8 @@ module _ (plan : Tables) (words : List ℕ) (paths : List Path) (shows : ShowsOf
     of : Found (has_line party.line) paths (find (has_line party.line) paths) → (channel : ℕ) × (channel_of party ≡ Some channel)
     of (One path within passes found) =
         let same : path.line ≡ party.line = (line_eq-exact path.line party.line).0 passes in
-        let field = line_field-path words paths path shows.switches shows.lawful.orderly.ranges shows.lawful.orderly.apart within in
-        (path.channel, by_word ∙ subst (λ (l : Line). field_at_place LineShape (word_of words (LineSwitch l.frame l.switch)) l.x ≡ Some path.channel) same field)
+        let field = line_field-path words paths path shows.switches shows.lawful.orderly.ranges shows.lawful.orderly.apart within in (
+          path.channel,
+          by_word ∙ subst (λ (l : Line). field_at_place LineShape (word_of words (LineSwitch l.frame l.switch)) l.x ≡ Some path.channel) same field,
+        )
     of (NoOne none found) = absurd (true≢false (sym (idle-none (has_line party.line) paths none) ∙ busy))

@@ -1,42 +1,16 @@
 -- the office under a lawful plan is a system of jobs over shared words
-use Rattle.std.proofs.Common.{◌≡◌, ℕ, ◌+◌, ◌<◌, ◌≤◌, List, [], length, slice_index, refl, sym, ap, ◌∙◌, subst, arith}
-use Rattle.std.specs.Prelude.{Some, Err}
-use Rattle.std.proofs.lemmas.List.{get_or-replicate, length-replicate}
-use Rattle.turns.specs.Script.{◌>>=◌, first_wanted, run}
-use Rattle.turns.specs.System.{AreAlike, AreApart, DecidesUnder, IsInitial, IsSystem, KeepsTo}
-use Rattle.turns.specs.declared.wanted.Wanted.TheVariants.{Seize}
-use Rattle.turns.proofs.Keeping.{keeps_map}
-use Rattle.turns.specs.Sharing.{IsUnused}
-use Rattle.turns.specs.Sharings.{preferring}
-use Rattle.turns.proofs.Preferring.{preferring_is, zero_unused}
-use Rattle.turns.proofs.Words.{zeros_below}
-use Rattle.xbar_equip.specs.Conn.{IsConn}
+use Rattle.std.proofs.Common.{◌≡◌, ℕ, ◌+◌, ◌<◌, ◌≤◌, List, [], length, slice_index, refl, sym, ap, ◌∙◌, subst, arith, Some, Err}
+use Rattle.{std.proofs.lemmas.List.{get_or-replicate, length-replicate}, turns.specs.{Script.{◌>>=◌, first_wanted, run}, System.{AreAlike, AreApart}}}
+use Rattle.turns.specs.{System.{DecidesUnder, IsInitial, IsSystem, KeepsTo}, declared.wanted.Wanted.TheVariants.Seize, Sharing.IsUnused, Sharings.preferring}
+use Rattle.{turns.proofs.{Keeping.keeps_map, Preferring.{preferring_is, zero_unused}, Words.zeros_below}, xbar_equip.specs.Conn.IsConn}
 use Rattle.xbar_equip.specs.Word.{Word, IsWord, word_number, protector, LineSwitch, LineJunctor, TrunkSwitch, TrunkJunctor, GroupWord, ConnWord, TurnWord}
-use Rattle.xbar_equip.specs.declared.conn.Conn.{Conn}
-use Rattle.xbar_equip.specs.declared.conn.Conn.TheVariants.{Llf, Tlf, Group}
-use Rattle.xbar_equip.specs.declared.path.Path.{Path}
-use Rattle.xbar_equip.proofs.PathTests.{conn_eq-exact}
-use Rattle.xbar_equip.proofs.WordNumbers.{conn_range, distinct, distinct_conns, each_named}
-use Rattle.xbar_plan.specs.Tables.{Tables}
-use Rattle.xbar_plan.specs.Lawful.{IsLawful}
-use Rattle.xbar_match.specs.Shows.{WordShows, IsClosedIn}
-use Rattle.xbar_office.specs.Legal.{IsJob}
-use Rattle.xbar_office.specs.Whole.{whole}
-use Rattle.xbar_office.specs.declared.job.Job.{Job}
-use Rattle.xbar_office.specs.declared.job.Job.TheVariants.{Dial, Complete, Release}
-use Rattle.xbar_jobs.specs.Completing.{complete_steps}
-use Rattle.xbar_jobs.specs.Jobs.{dial_steps, first_conn, script}
-use Rattle.xbar_jobs.specs.Keeping.{IsCovered}
-use Rattle.xbar_jobs.specs.Office.{GroupShows, Protects, ShowsOffice, office}
-use Rattle.xbar_jobs.specs.Releasing.{release_steps}
-use Rattle.xbar_jobs.specs.Tracing.{approach}
-use Rattle.xbar_jobs.proofs.CompleteDecides.{complete_decides}
-use Rattle.xbar_jobs.proofs.Covered.{protected_below}
-use Rattle.xbar_jobs.proofs.DialDecides.{DecidesOn, dial_takes}
-use Rattle.xbar_jobs.proofs.FittingEffects.{may_make}
-use Rattle.xbar_jobs.proofs.JobKeeps.{script_keeps}
-use Rattle.xbar_jobs.proofs.ReleaseDecides.{release_decides}
-use Rattle.xbar_jobs.proofs.OpenedWords.{shows_opened}
+use Rattle.xbar_equip.{specs.declared.{conn.Conn.{Conn, TheVariants.{Llf, Tlf, Group}}, path.Path.Path}, proofs.PathTests.conn_eq-exact}
+use Rattle.{xbar_equip.proofs.WordNumbers.{conn_range, distinct, distinct_conns, each_named}, xbar_plan.specs.{Tables.Tables, Lawful.IsLawful}}
+use Rattle.{xbar_match.specs.Shows.{WordShows, IsClosedIn}, xbar_office.specs.{Legal.IsJob, Whole.whole, declared.job.Job.{Job, TheVariants.{Dial, Complete}}}}
+use Rattle.{xbar_office.specs.declared.job.Job.TheVariants.Release, xbar_jobs.specs.{Completing.complete_steps, Jobs.{dial_steps, first_conn, script}}}
+use Rattle.xbar_jobs.specs.{Keeping.IsCovered, Office.{GroupShows, Protects, ShowsOffice, office}, Releasing.release_steps, Tracing.approach}
+use Rattle.xbar_jobs.proofs.{CompleteDecides.complete_decides, Covered.protected_below, DialDecides.{DecidesOn, dial_takes}, FittingEffects.may_make}
+use Rattle.xbar_jobs.proofs.{JobKeeps.script_keeps, ReleaseDecides.release_decides, OpenedWords.shows_opened}
 
 one_protector : (number : ℕ) (a b : Conn) → Protects a number → Protects b number → a ≡ b
 one_protector number a b p q =
@@ -87,11 +61,18 @@ same_below plan words other alike n below =
     let p = word_protected n below in
     alike.under n p.0 p.1
 
-looks : (plan : Tables) (words other : List ℕ) (paths : List Path) → AreAlike (office plan) words other → ShowsOffice plan words paths → ShowsOffice plan other paths
+looks : (plan : Tables) (words other : List ℕ) (paths : List Path) → AreAlike (office plan) words other → ShowsOffice plan words paths
+    → ShowsOffice plan other paths
 looks plan words other paths alike shows = record {
   lawful = shows.lawful;
-  switches = record { switch = λ n below. subst (λ (word : ℕ). WordShows (IsClosedIn paths) n word) (same_below plan words other alike n (omega arith)) (shows.switches.switch n below) };
-  groups = λ number below. subst (λ (word : ℕ). GroupShows plan paths number word) (same_below plan words other alike (400 + number) (omega arith)) (shows.groups number below);
+  switches = record {
+    switch =
+        λ n below. subst (λ (word : ℕ). WordShows (IsClosedIn paths) n word) (same_below plan words other alike n (omega arith))
+        (shows.switches.switch n below);
+  };
+  groups =
+      λ number below. subst (λ (word : ℕ). GroupShows plan paths number word) (same_below plan words other alike (400 + number) (omega arith))
+      (shows.groups number below);
 }
 
 -- a job's script begins with its first connector
@@ -102,7 +83,8 @@ first_seized plan (Complete line dialled) = refl
 first_seized plan (Release line) = refl
 
 -- on words that show a set, a job's script decides as the one-marker office does
-pub script_decides : (plan : Tables) (words : List ℕ) (paths : List Path) (job : Job) → IsLawful plan → 453 ≤ length words → ShowsOffice plan words paths → IsJob job
+pub script_decides : (plan : Tables) (words : List ℕ) (paths : List Path) (job : Job) → IsLawful plan → 453 ≤ length words → ShowsOffice plan words paths
+    → IsJob job
     → DecidesOn plan words (run words (script plan job)) (whole plan paths job)
 unfolding script
 script_decides plan words paths (Dial line) laws size shows in_range = (dial_takes plan words paths laws size shows line in_range).decides
@@ -112,7 +94,8 @@ script_decides plan words paths (Release line) laws size shows in_range = releas
 -- and it keeps to what it holds
 keeps_under : (plan : Tables) (job : Job) → IsLawful plan → IsJob job → KeepsTo (office plan) (DecidesUnder (office plan)) [] (script plan job)
 keeps_under plan job laws in_range =
-    keeps_map (office plan) (IsCovered plan) (DecidesUnder (office plan)) [] (script plan job) (λ conns decision covered. may_make plan conns decision covered) (script_keeps plan job laws in_range)
+    keeps_map (office plan) (IsCovered plan) (DecidesUnder (office plan)) [] (script plan job) (λ conns decision covered. may_make plan conns decision covered)
+    (script_keeps plan job laws in_range)
 
 -- the words that the office opens on are all 0
 opens_on : (plan : Tables) → IsInitial (office plan)

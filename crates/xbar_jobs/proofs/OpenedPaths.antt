@@ -1,26 +1,16 @@
 -- what the effects that open paths make of words that show a set
-use Rattle.std.proofs.Common.{◌≡◌, ◌≢◌, ℕ, ◌≤◌, List, [], ◌∷◌, length, get_or, fold, map, inl, inr, refl, sym, ◌∙◌, ap, subst, arith, get_or-set_other, length-set}
-use Rattle.std.specs.Prelude.{Option, Some, None}
+use Rattle.std.proofs.Common.{◌≡◌, ◌≢◌, ℕ, ◌≤◌, List, [], ◌∷◌, length, get_or, fold, map, inl, inr, refl, sym, ◌∙◌, ap, subst, arith, get_or-set_other}
+use Rattle.std.proofs.Common.{length-set, Option, Some, None}
 use Rattle.turns.specs.System.{AreDue, perform_all}
-use Rattle.xbar_equip.specs.Among.{IsIn}
-use Rattle.xbar_equip.specs.Crosspoint.{crosspoints}
-use Rattle.xbar_equip.specs.Path.{IsPath}
-use Rattle.xbar_equip.specs.Paths.{without_path}
-use Rattle.xbar_equip.specs.declared.crosspoint.Crosspoint.{Crosspoint}
-use Rattle.xbar_equip.specs.declared.path.Path.{Path}
-use Rattle.xbar_plan.specs.Tables.{Tables}
-use Rattle.xbar_match.specs.Effects.{open_at, open_path, EachOpens}
-use Rattle.xbar_match.specs.Shows.{ShowsPaths}
+use Rattle.xbar_equip.specs.{Among.IsIn, Crosspoint.crosspoints, Path.IsPath, Paths.without_path, declared.{crosspoint.Crosspoint.Crosspoint, path.Path.Path}}
+use Rattle.{xbar_plan.specs.Tables.Tables, xbar_match.specs.{Effects.{open_at, open_path, EachOpens}, Shows.ShowsPaths}}
 use Rattle.xbar_match.proofs.PathEffects.{crosspoint, four_opened, open_path-shows, without_path-removes}
-use Rattle.xbar_office.specs.LawfulSet.{IsOrderlySet}
-use Rattle.xbar_office.specs.Release.{without_other}
-use Rattle.xbar_jobs.specs.Closing.{path_opens, other_opens}
-use Rattle.xbar_jobs.specs.Office.{office}
-use Rattle.xbar_jobs.specs.declared.effect.Effect.TheVariants.{Open}
-use Rattle.xbar_jobs.proofs.TakenMembers.{Adds as LeadsTo, nothing_added as nothing_opened}
+use Rattle.{xbar_office.specs.{LawfulSet.IsOrderlySet, Release.without_other}, xbar_jobs.specs.{Closing.{path_opens, other_opens}, Office.office}}
+use Rattle.xbar_jobs.{specs.declared.effect.Effect.TheVariants.Open, proofs.TakenMembers.{Adds as LeadsTo, nothing_added as nothing_opened}}
 
 -- opening crosspoints leaves every other word as it is
-pub open_all-elsewhere : (words : List ℕ) (cs : List Crosspoint) (n : ℕ) → ((c : Crosspoint) → IsIn c cs → n ≢ c.word) → get_or (fold open_at words cs) n 0 ≡ get_or words n 0
+pub open_all-elsewhere : (words : List ℕ) (cs : List Crosspoint) (n : ℕ) → ((c : Crosspoint) → IsIn c cs → n ≢ c.word)
+    → get_or (fold open_at words cs) n 0 ≡ get_or words n 0
 open_all-elsewhere words [] n other = refl
 open_all-elsewhere words (c ∷ cs) n other =
     open_all-elsewhere (open_at words c) cs n (λ d within. other d (inr within))
@@ -53,14 +43,18 @@ module _ (plan : Tables) where
   opens-due words (c ∷ cs) each = (each.0, opens-due (open_at words c) cs each.1)
 
   -- a path of the set is taken out by opening it
-  pub one_opened : (words : List ℕ) (paths : List Path) (path : Path) → 400 ≤ length words → ShowsPaths words paths → IsOrderlySet plan paths → IsIn path paths → LeadsTo plan words (path_opens path) (without_path paths path)
+  pub one_opened : (words : List ℕ) (paths : List Path) (path : Path) → 400 ≤ length words → ShowsPaths words paths → IsOrderlySet plan paths → IsIn path paths
+      → LeadsTo plan words (path_opens path) (without_path paths path)
   one_opened words paths path long shows orderly within =
       let opened = sym (perform_all-path_opens words path) in
       record {
         switches =
             subst (λ (after : List ℕ). ShowsPaths after (without_path paths path)) opened
-            (open_path-shows words paths (without_path paths path) path long shows orderly.ranges orderly.apart within (without_path-removes paths path orderly.set));
-        behind = λ n above. ap (λ (after : List ℕ). get_or after n 0) (perform_all-path_opens words path) ∙ open_path-behind words path n (orderly.ranges path within) above;
+            (open_path-shows words paths (without_path paths path) path long shows orderly.ranges orderly.apart within
+            (without_path-removes paths path orderly.set));
+        behind =
+            λ n above. ap (λ (after : List ℕ). get_or after n 0) (perform_all-path_opens words path)
+            ∙ open_path-behind words path n (orderly.ranges path within) above;
         size = ap (length {A = ℕ}) (perform_all-path_opens words path) ∙ length-open_path words path;
         due = opens-due words (crosspoints path) (four_opened words paths path long shows orderly.ranges within).steps;
       }

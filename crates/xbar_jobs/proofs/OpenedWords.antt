@@ -1,21 +1,10 @@
 -- words that are all 0 show the empty set of paths
-use Rattle.std.proofs.Common.{◌≡◌, ℕ, ◌+◌, Bool, true, false, List, [], ◌∷◌, replicate, inl, refl, sym, ◌∙◌, ap, subst, arith}
-use Rattle.std.specs.Prelude.{Option, Some, None, not, if◌then◌else◌}
-use Rattle.std.specs.Option.{option_map_or}
-use Rattle.std.specs.List.{list_all}
-use Rattle.std.specs.Int.{bit_at}
-use Rattle.std.proofs.lemmas.List.{get_or-replicate}
-use Rattle.std.proofs.lemmas.Nat.Bits.{bit_at-zero}
-use Rattle.xbar_equip.specs.Ten.{TrunkPlace}
-use Rattle.xbar_equip.specs.Paths.{has_place, is_idle}
-use Rattle.xbar_plan.specs.Group.{places}
-use Rattle.xbar_plan.specs.Tables.{Tables, member_at}
-use Rattle.xbar_plan.specs.declared.group.Member.{Member}
-use Rattle.xbar_switch.specs.Field.{field_of, above_fields}
-use Rattle.xbar_match.specs.Shows.{IsClosedIn, WordShows}
-use Rattle.xbar_office.specs.Members.{is_member_idle}
-use Rattle.xbar_office.proofs.LawfulJobs.{lawful-empty}
-use Rattle.xbar_jobs.specs.Office.{ShowsOffice}
+use Rattle.std.proofs.Common.{◌≡◌, ℕ, ◌+◌, Bool, true, false, List, [], ◌∷◌, replicate, inl, refl, sym, ◌∙◌, ap, subst, arith, Option, Some, None, not}
+use Rattle.std.proofs.Common.{if◌then◌else◌}
+use Rattle.std.{specs.{Option.option_map_or, List.list_all, Int.bit_at}, proofs.lemmas.{List.get_or-replicate, Nat.Bits.bit_at-zero}}
+use Rattle.{xbar_equip.specs.{Ten.TrunkPlace, Paths.{has_place, is_idle}}, xbar_plan.specs.{Group.places, Tables.{Tables, member_at}}}
+use Rattle.{xbar_plan.specs.declared.group.Member.Member, xbar_switch.specs.Field.{field_of, above_fields}, xbar_match.specs.Shows.{IsClosedIn, WordShows}}
+use Rattle.{xbar_office.{specs.Members.is_member_idle, proofs.LawfulJobs.lawful-empty}, xbar_jobs.specs.Office.ShowsOffice}
 
 -- in a word that is 0 all fields are open
 open_word : (n : ℕ) → WordShows (IsClosedIn []) n 0
@@ -39,6 +28,9 @@ none_busy (Some member) = ap not (all_idle (places member))
 pub shows_opened : (plan : Tables) → ShowsOffice plan (replicate 453 0) []
 shows_opened plan = record {
   lawful = lawful-empty plan;
-  switches = record { switch = λ n below. subst (λ (word : ℕ). WordShows (IsClosedIn []) n word) (sym (get_or-replicate 453 n 0 0 (omega arith))) (open_word n) };
-  groups = λ number below index. ap (λ (word : ℕ). bit_at word index) (get_or-replicate 453 (400 + number) 0 0 (omega arith)) ∙ bit_at-zero index ∙ ap (λ (b : Bool). if b then 1 else 0) (sym (none_busy (member_at plan number index)));
+  switches =
+      record { switch = λ n below. subst (λ (word : ℕ). WordShows (IsClosedIn []) n word) (sym (get_or-replicate 453 n 0 0 (omega arith))) (open_word n) };
+  groups =
+      λ number below index. ap (λ (word : ℕ). bit_at word index) (get_or-replicate 453 (400 + number) 0 0 (omega arith)) ∙ bit_at-zero index
+      ∙ ap (λ (b : Bool). if b then 1 else 0) (sym (none_busy (member_at plan number index)));
 }

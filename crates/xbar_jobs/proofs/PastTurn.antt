@@ -1,35 +1,13 @@
 -- steps past the turn: an effect is made, or what is held first is freed
-use Rattle.std.proofs.Common.{◌≡◌, ℕ, suc, ◌+◌, ◌<◌, ◌^◌, true, false, List, [], ◌∷◌, length, refl, sym, ◌∙◌, ap, subst, arith, inr}
-use Rattle.std.specs.Prelude.{is_some, slice_index, slice_set}
-use Rattle.turns.specs.Attempt.{IsAnswerTo, act, act_in, answer_to, change, changed, closing_act, operated, turn_in}
-use Rattle.turns.specs.Operations.{applied}
-use Rattle.turns.specs.Runs.{is_finished}
-use Rattle.turns.specs.World.{becomes, place}
-use Rattle.turns.specs.declared.answer.Answer.TheVariants.{Done}
-use Rattle.turns.specs.declared.operation.Operation.{Operation}
+use Rattle.std.proofs.Common.{◌≡◌, ℕ, suc, ◌+◌, ◌<◌, ◌^◌, true, false, List, [], ◌∷◌, length, refl, sym, ◌∙◌, ap, subst, arith, is_some, slice_index, slice_set}
+use Rattle.turns.specs.{Attempt.{IsAnswerTo, act, act_in, answer_to, change, changed, closing_act, operated, turn_in}, Operations.applied, Runs.is_finished}
+use Rattle.turns.specs.{World.{becomes, place}, declared.{answer.Answer.{Answer, TheVariants.Done}, operation.Operation.Operation}}
 use Rattle.turns.specs.declared.phase.Phase.TheVariants.{Requests, Seizes, Tests, Turns, Withdraws, GivesBack, Operates}
-use Rattle.attempts.specs.Counting.{counted_by}
-use Rattle.attempts.specs.WalkOnWords.{IsNoTurn, LeadsTo, Moment, stepped, answer_at}
-use Rattle.attempts.specs.Validity.{ResumePointIsValidIn}
-use Rattle.attempts.proofs.LeadsOn.{leads_then}
-use Rattle.xbar_equip.specs.Word.{word_count}
-use Rattle.xbar_equip.specs.declared.conn.Conn.{Conn}
-use Rattle.xbar_office.specs.declared.job.Job.{Job}
-use Rattle.xbar_plan.specs.Lawful.{IsLawful}
-use Rattle.xbar_plan.specs.Tables.{Tables}
-use Rattle.xbar_jobs.specs.Attempt.{Act, Attempt, Phase, next_step}
-use Rattle.xbar_jobs.specs.Keeping.{AreEffects}
-use Rattle.xbar_jobs.specs.Office.{office}
+use Rattle.attempts.{specs.{Counting.{count_in, counted_by}, WalkOnWords.{IsNoTurn, LeadsTo, Moment, stepped, answer_at}}, proofs.LeadsOn.leads_then}
+use Rattle.{xbar_equip.specs.{Word.word_count, declared.conn.Conn.Conn}, xbar_plan.specs.Tables.Tables}
+use Rattle.xbar_jobs.specs.{Attempt.{Act, Attempt, Counted, Phase, counted, next_step}, Counting.after_answer, Office.office, OnWords.{answer_of, words_after}}
+use Rattle.xbar_jobs.{specs.{Running.RunsOut, Standing.IsValid, declared.effect.Effect.Effect}, proofs.StepActs.{act_answer, act_operation, act_word}}
 use Rattle.xbar_jobs.specs.OnWords as made
-use Rattle.xbar_jobs.specs.OnWords.{words_after}
-use Rattle.xbar_jobs.specs.Running.{MadeOnePastTurn, RunsOut}
-use Rattle.xbar_jobs.specs.Script.{Seen}
-use Rattle.xbar_jobs.specs.Standing.{Doing, IsAttempt, IsValid, attempt_at}
-use Rattle.xbar_jobs.specs.declared.effect.Effect.{Effect}
-use Rattle.xbar_jobs.specs.declared.walk_progress.WalkProgress.{WalkProgress}
-use Rattle.xbar_jobs.proofs.AttemptStands.{stands_after}
-use Rattle.xbar_jobs.proofs.Programs.{is_attempt}
-use Rattle.xbar_jobs.proofs.StepActs.{act_operation, act_word}
 
 -- the phase past the turn
 turned_at : (phase : Phase) → is_some (turn_in phase) ≡ true → (turn : ℕ) × (phase ≡ Operates turn)
@@ -41,101 +19,112 @@ turned_at Turns past = absurd cc
 turned_at (Withdraws conn) past = absurd cc
 turned_at GivesBack past = absurd cc
 
--- its resume point matters no more
-pub knows_past : (ResumePointIsValid : Job → WalkProgress → Seen → Type 0) (a : Attempt) (point : WalkProgress) (phase : Phase) → is_some (turn_in phase) ≡ true → ResumePointIsValidIn ResumePointIsValid a point phase
-knows_past ResumePointIsValid a point phase past = subst (λ (phase : Phase). ResumePointIsValidIn ResumePointIsValid a point phase) (sym (turned_at phase past).1) tt
-
 -- one step more is counted
-count_more : (done count : ℕ) → counted_by 1 (counted_by done count) ≡ counted_by (done + 1) count
-count_more done count = omega arith
+count_more : (made count : ℕ) → count < 2 ^ 32 → counted (counted_by made count) ≡ counted_by (made + 1) count
+count_more made count fits = grind (arith, fits)
 
-module _ (plan : Tables) where
+operated_phase : (a : Attempt) (effects : List Effect) → (operated a effects).phase ≡ a.phase
+operated_phase a [] = refl
+operated_phase a (effect ∷ effects) = refl
+
+module _ (plan : Tables) (marker : ℕ) where
+  -- a step's answer, and the words after it, as the law has them
+  pub answer_led : (a : Attempt) (words : List ℕ)
+      → answer_of marker (next_step a) words ≡ answer_at (office plan) marker (record { attempt = a; words = words })
+  answer_led a words =
+      ap (λ (n : ℕ). made.step_answer marker (next_step a) (slice_index words n)) (act_word plan (act a))
+      ∙ act_answer plan marker (act a) (slice_index words (place (office plan) (act a)))
+
+  pub words_led : (a : Attempt) (words : List ℕ)
+      → words_after marker (next_step a) words
+      ≡ slice_set words (place (office plan) (act a)) (becomes (office plan) marker (act a) (slice_index words (place (office plan) (act a))))
+  words_led a words =
+      ap (λ (n : ℕ). slice_set words n (applied (made.operation marker (next_step a)) (slice_index words n))) (act_word plan (act a))
+      ∙ ap (λ (o : Operation). slice_set words (place (office plan) (act a)) (applied o (slice_index words (place (office plan) (act a)))))
+      (act_operation plan marker (act a))
+
   -- what is left past the turn is no turn, and is answered so
-  record IsClosing (marker : ℕ) (one : Act) : Type 0 where
+  record IsClosing (one : Act) : Type 0 where
     goes : IsNoTurn (office plan) one
     done : (found : ℕ) → answer_to (office plan) marker one found ≡ Done
     answers : IsAnswerTo one Done
 
-  closing : (marker : ℕ) (effects : List Effect) (held : List Conn) → is_finished (closing_act effects held) ≡ false → IsClosing marker (closing_act effects held)
-  closing marker [] [] goes = absurd cc
-  closing marker [] (conn ∷ held) goes = record { goes = tt; done = λ found. refl; answers = tt }
-  closing marker (effect ∷ effects) held goes = record { goes = tt; done = λ found. refl; answers = tt }
+  closing : (effects : List Effect) (held : List Conn) → is_finished (closing_act effects held) ≡ false → IsClosing (closing_act effects held)
+  closing [] [] goes = absurd cc
+  closing [] (conn ∷ held) goes = record { goes = tt; done = λ found. refl; answers = tt }
+  closing (effect ∷ effects) held goes = record { goes = tt; done = λ found. refl; answers = tt }
 
-  closes_past : (marker : ℕ) (a : Attempt) → is_some (turn_in a.phase) ≡ true → is_finished (act a) ≡ false → IsClosing marker (act a)
-  closes_past marker a past goes =
+  closes : (a : Attempt) → is_some (turn_in a.phase) ≡ true → is_finished (act a) ≡ false → IsClosing (act a)
+  closes a past goes =
       let is : act a ≡ closing_act a.effects a.held = ap (λ (phase : Phase). act_in phase a) (turned_at a.phase past).1 in
-      subst (IsClosing marker) (sym is) (closing marker a.effects a.held (sym (ap is_finished is) ∙ goes))
+      subst IsClosing (sym is) (closing a.effects a.held (sym (ap is_finished is) ∙ goes))
 
-  -- the effects that are left after it are among those before
-  effects_then : (a : Attempt) (effects : List Effect) → AreEffects a.effects → AreEffects effects → AreEffects (operated a effects).effects
-  effects_then a [] now are = now
-  effects_then a (effect ∷ effects) now are = λ other within. are other (inr within)
+  -- it stays past its turn
+  phase_stays : (a : Attempt) (answer : Answer) → is_some (turn_in a.phase) ≡ true → answer ≡ Done → (change (office plan) a answer).phase ≡ a.phase
+  phase_stays a answer past is =
+      ap (λ (told : Answer). (change (office plan) a told).phase) is
+      ∙ ap (λ (phase : Phase). (changed (office plan) a phase Done).phase) (turned_at a.phase past).1
+      ∙ operated_phase a a.effects
 
-  module _ (marker : ℕ) where
-    -- the words after a step, as the law has them
-    pub words_led : (a : Attempt) (words : List ℕ) → words_after marker (next_step a) words ≡ slice_set words (place (office plan) (act a)) (becomes (office plan) marker (act a) (slice_index words (place (office plan) (act a))))
-    words_led a words =
-        ap (λ (n : ℕ). slice_set words n (applied (made.operation marker (next_step a)) (slice_index words n))) (act_word plan (act a))
-        ∙ ap (λ (o : Operation). slice_set words (place (office plan) (act a)) (applied o (slice_index words (place (office plan) (act a))))) (act_operation plan marker (act a))
+  counts_past : (phase : Phase) (held : List Conn) (count : ℕ) → is_some (turn_in phase) ≡ true → count_in phase held count ≡ count
+  counts_past phase held count past = ap (λ (phase : Phase). count_in phase held count) (turned_at phase past).1
 
-    module _ (old new : Doing) (words after : List ℕ) (past : is_some (turn_in old.phase) ≡ true) (more : MadeOnePastTurn old words new after) where
-      abbrev was : Moment (office plan)
-      was = record { attempt = attempt_at old; words = words }
+  -- steps past the turn, from the first on
+  pub closed_none : (most : ℕ) (p : Counted) (words : List ℕ) → p.count < 2 ^ 32 → IsValid plan p.attempt → is_some (turn_in p.attempt.phase) ≡ true
+      → length words ≡ word_count → RunsOut plan marker most 0 p words p words
+  unfolding LeadsTo
+  closed_none most p words fits valid turned whole = record {
+    runs = record { fits = omega arith; steps = refl; count = omega (arith, fits); valid = valid };
+    turned = turned;
+    whole = whole;
+  }
 
-      closes : IsClosing marker (act (attempt_at old))
-      closes = closes_past marker (attempt_at old) past more.goes
-
-      told_done : answer_at (office plan) marker was ≡ Done
-      told_done = closes.done (slice_index words (place (office plan) (act (attempt_at old))))
-
-      -- a step past the turn that is made and counted is the marker's next step
-      is_stepped : record { attempt = attempt_at new; words = after } ≡ stepped (office plan) marker was
-      is_stepped =
-          let at = turned_at old.phase past in
-          let attempt_is : attempt_at new ≡ (stepped (office plan) marker was).attempt = more.attempt ∙ sym (ap (λ (phase : Phase). changed (office plan) (attempt_at old) phase Done) at.1) ∙ ap (change (office plan) (attempt_at old)) (sym told_done) in
-          let all = more.words_are marker ∙ words_led (attempt_at old) words in
-          λ i. record { attempt = attempt_is i; words = all i }
-
-    -- steps past the turn, from the first on
-    pub closed_none : IsLawful plan → (most : ℕ) (p : Doing) (words : List ℕ) → p.count < 2 ^ 32 → IsValid plan (attempt_at p) → IsAttempt (attempt_at p) → is_some (turn_in p.phase) ≡ true → length words ≡ word_count → RunsOut plan marker most 0 p words p words
-    unfolding LeadsTo
-    closed_none laws most p words fits valid is turned whole = record {
-      fits = omega arith;
-      steps = refl;
-      count = omega (arith, fits);
+  pub closed_more : (most made : ℕ) (first now next : Counted) (words between after : List ℕ) (answer : Answer)
+      → RunsOut plan marker most made first words now between → made < most → first.count < 2 ^ 32 → is_finished (act now.attempt) ≡ false
+      → answer ≡ answer_of marker (next_step now.attempt) between → next ≡ after_answer plan now answer
+      → after ≡ words_after marker (next_step now.attempt) between → IsValid plan next.attempt → length after ≡ length between
+      → RunsOut plan marker most (made + 1) first words next after
+  closed_more most made first now next words between after answer so_far below few goes answered comes makes valid same = record {
+    runs = record {
+      fits = omega (arith, below);
+      steps =
+          subst (λ (n : ℕ). LeadsTo (office plan) marker n start (record { attempt = next.attempt; words = after })) one_more
+          (subst (LeadsTo (office plan) marker (suc made) start) (sym is_stepped)
+          (leads_then (office plan) marker made start here so_far.runs.steps closing_now.goes
+          (subst (IsAnswerTo (act now.attempt)) (sym told_done) closing_now.answers)));
+      count =
+          ap (λ (p : Counted). p.count) comes
+          ∙ counts_past (change (office plan) now.attempt answer).phase (change (office plan) now.attempt answer).held (counted now.count) past
+          ∙ ap counted so_far.runs.count ∙ count_more made first.count few;
       valid = valid;
-      attempt = is;
-      turned = turned;
-      whole = whole;
-    }
+    };
+    turned = subst (λ (p : Counted). is_some (turn_in p.attempt.phase) ≡ true) (sym comes) past;
+    whole = same ∙ so_far.whole;
+  } where
+    one_more : suc made ≡ made + 1
+    one_more = omega arith
 
-    pub closed_more : IsLawful plan → (most made : ℕ) (first now next : Doing) (words between after : List ℕ) → RunsOut plan marker most made first words now between → made < most → MadeOnePastTurn now between next after → length after ≡ length between → RunsOut plan marker most (made + 1) first words next after
-    closed_more laws most made first now next words between after so_far below more same = record {
-      fits = omega arith;
-      steps = subst (λ (n : ℕ). LeadsTo (office plan) marker n start (record { attempt = attempt_at next; words = after })) one_more (subst (LeadsTo (office plan) marker (suc made) start) (sym stepped_so) (leads_then (office plan) marker made start here so_far.steps closing_now.goes answers));
-      count = more.count ∙ ap (counted_by 1) so_far.count ∙ count_more made first.count;
-      valid = stands_next;
-      attempt = is_attempt plan laws (attempt_at next) stands_next (subst AreEffects (sym (ap (λ (a : Attempt). a.effects) more.attempt)) (effects_then (attempt_at now) (attempt_at now).effects so_far.attempt.effects so_far.attempt.effects));
-      turned = subst (λ (phase : Phase). is_some (turn_in phase) ≡ true) (sym more.phase) so_far.turned;
-      whole = same ∙ so_far.whole;
-    } where
-      one_more : suc made ≡ made + 1
-      one_more = omega arith
+    start : Moment (office plan)
+    start = record { attempt = first.attempt; words = words }
 
-      start : Moment (office plan)
-      start = record { attempt = attempt_at first; words = words }
+    here : Moment (office plan)
+    here = record { attempt = now.attempt; words = between }
 
-      here : Moment (office plan)
-      here = record { attempt = attempt_at now; words = between }
+    closing_now : IsClosing (act now.attempt)
+    closing_now = closes now.attempt so_far.turned goes
 
-      stepped_so : record { attempt = attempt_at next; words = after } ≡ stepped (office plan) marker here
-      stepped_so = is_stepped now next between after so_far.turned more
+    told_done : answer_at (office plan) marker here ≡ Done
+    told_done = closing_now.done (slice_index between (place (office plan) (act now.attempt)))
 
-      closing_now : IsClosing marker (act (attempt_at now))
-      closing_now = closes now next between after so_far.turned more
+    answer_is : answer ≡ answer_at (office plan) marker here
+    answer_is = answered ∙ answer_led now.attempt between
 
-      answers : IsAnswerTo (act (attempt_at now)) (answer_at (office plan) marker here)
-      answers = subst (IsAnswerTo (act (attempt_at now))) (sym (told_done now next between after so_far.turned more)) closing_now.answers
+    past : is_some (turn_in (change (office plan) now.attempt answer).phase) ≡ true
+    past =
+        subst (λ (phase : Phase). is_some (turn_in phase) ≡ true) (sym (phase_stays now.attempt answer so_far.turned (answer_is ∙ told_done))) so_far.turned
 
-      stands_next : IsValid plan (attempt_at next)
-      stands_next = subst (IsValid plan) (sym (ap (λ (x : Moment (office plan)). x.attempt) stepped_so)) (stands_after plan (attempt_at now) (answer_at (office plan) marker here) laws so_far.attempt.job answers so_far.valid)
+    is_stepped : record { attempt = next.attempt; words = after } ≡ stepped (office plan) marker here
+    is_stepped =
+        let attempt_is = ap (λ (p : Counted). p.attempt) comes ∙ ap (change (office plan) now.attempt) answer_is in
+        let all = makes ∙ words_led now.attempt between in
+        λ i. record { attempt = attempt_is i; words = all i }

@@ -1,33 +1,13 @@
 -- a release decides, on words that show a set, what the one-marker office does on the set
-use Rattle.std.proofs.Common.{◌≡◌, ℕ, ◌≤◌, List, length, refl, sym, ◌∙◌, ap, subst}
-use Rattle.std.specs.Prelude.{Option, Some, None, option_and_then}
-use Rattle.std.proofs.lemmas.List.{append-nil}
-use Rattle.turns.specs.Script.{◌>>=◌, run}
-use Rattle.turns.specs.System.{AreDue, DecidesAs, perform_all}
-use Rattle.turns.proofs.Walks.{run_bind}
-use Rattle.xbar_equip.specs.Len.{Line, IsLine}
-use Rattle.xbar_equip.specs.Paths.{has_line}
-use Rattle.xbar_equip.specs.Ten.{TrunkPlace, IsTrunkPlace}
-use Rattle.xbar_equip.specs.declared.path.Path.{Path}
-use Rattle.xbar_equip.proofs.Lists.{found_passes}
-use Rattle.xbar_plan.specs.Tables.{Tables, member_place}
-use Rattle.xbar_plan.specs.Lawful.{IsLawful}
-use Rattle.xbar_plan.specs.declared.group.MemberPlace.{MemberPlace}
-use Rattle.xbar_plan.proofs.MemberPlaces.{member_place-other}
-use Rattle.xbar_office.specs.Done.{Done}
-use Rattle.xbar_office.specs.Release.{release, release_from as office_release_from, release_paths}
-use Rattle.xbar_office.specs.Standing.{path_of, path_at, other_path}
-use Rattle.xbar_office.specs.declared.reply.End.TheVariants.{NoCall}
-use Rattle.xbar_office.proofs.ReleaseJobs.{named_at}
-use Rattle.xbar_jobs.specs.Closing.{effects, leave_effects, leave_of, refused, released}
-use Rattle.xbar_jobs.specs.Office.{ShowsOffice, office}
-use Rattle.xbar_jobs.specs.Releasing.{release_from, release_member, release_steps, trace_other}
-use Rattle.xbar_jobs.specs.Tracing.{approach, trace}
-use Rattle.xbar_jobs.specs.declared.decision.Decision.{Decision}
-use Rattle.xbar_jobs.specs.declared.effect.Effect.{Effect}
-use Rattle.xbar_jobs.specs.declared.leave.Leave.{Leave}
-use Rattle.xbar_jobs.proofs.LeaveEffects.{IsLeave, left, leave_shows, leave_due}
-use Rattle.xbar_jobs.proofs.TracedRuns.{trace_runs, trace_back_runs, traced_shown, traced_back_shown}
+use Rattle.std.proofs.Common.{◌≡◌, ℕ, ◌≤◌, List, length, refl, sym, ◌∙◌, ap, subst, Option, Some, None, option_and_then, append-nil}
+use Rattle.turns.{specs.{Script.{◌>>=◌, run}, System.{AreDue, DecidesAs, perform_all}}, proofs.Walks.run_bind}
+use Rattle.xbar_equip.{specs.{Len.{Line, IsLine}, Paths.has_line, Ten.{TrunkPlace, IsTrunkPlace}, declared.path.Path.Path}, proofs.Lists.found_passes}
+use Rattle.xbar_plan.{specs.{Tables.{Tables, member_place}, Lawful.IsLawful, declared.group.MemberPlace.MemberPlace}, proofs.MemberPlaces.member_place-other}
+use Rattle.xbar_office.specs.{Done.Done, Release.{release, release_from as office_release_from, release_paths}, Standing.{path_of, path_at, other_path}}
+use Rattle.{xbar_office.{specs.declared.reply.End.TheVariants.NoCall, proofs.ReleaseJobs.named_at}, xbar_jobs.specs.Closing.{effects, leave_effects, leave_of}}
+use Rattle.xbar_jobs.specs.{Closing.{refused, released}, Office.{ShowsOffice, office}, Releasing.{release_from, release_member, release_steps, trace_other}}
+use Rattle.xbar_jobs.specs.{Tracing.{approach, trace}, declared.{decision.Decision.Decision, effect.Effect.Effect, leave.Leave.Leave}}
+use Rattle.xbar_jobs.proofs.{LeaveEffects.{IsLeave, left, leave_shows, leave_due}, TracedRuns.{trace_runs, trace_back_runs, traced_shown, traced_back_shown}}
 
 -- what a release comes to: a line that has no path has no call, and of another one its call is let go
 pub data ComesTo (plan : Tables) (paths : List Path) (line : Line) (decision : Decision) : Type 0 where
@@ -36,12 +16,14 @@ pub data ComesTo (plan : Tables) (paths : List Path) (line : Line) (decision : D
 
 module _ (plan : Tables) (words : List ℕ) (paths : List Path) (laws : IsLawful plan) (shows : ShowsOffice plan words paths) where
   -- the other party's path is found, if the plan has another place beside the own one
-  other_runs : (place : Option TrunkPlace) → ((beside : TrunkPlace) → place ≡ Some beside → IsTrunkPlace beside) → run words (trace_other place) ≡ option_and_then (path_at paths) place
+  other_runs : (place : Option TrunkPlace) → ((beside : TrunkPlace) → place ≡ Some beside → IsTrunkPlace beside)
+      → run words (trace_other place) ≡ option_and_then (path_at paths) place
   unfolding run trace_other
   other_runs None range = refl
   other_runs (Some place) range = trace_back_runs words place ∙ traced_back_shown plan words paths place shows (range place refl)
 
-  member_runs : (own : Path) (found : MemberPlace) → member_place plan own.place ≡ Some found → run words (release_member own (Some found)) ≡ released (leave_of own (other_path plan paths own) found)
+  member_runs : (own : Path) (found : MemberPlace) → member_place plan own.place ≡ Some found
+      → run words (release_member own (Some found)) ≡ released (leave_of own (other_path plan paths own) found)
   unfolding run release_member ◌>>=◌
   member_runs own found here =
       run_bind words (trace_other found.other) _
@@ -55,7 +37,9 @@ module _ (plan : Tables) (words : List ℕ) (paths : List Path) (laws : IsLawful
     -- the line's trace finds its path in the set
     path_runs : run words (release_steps plan line) ≡ run words (release_from plan (path_of paths line))
     unfolding run release_steps approach ◌>>=◌
-    path_runs = run_bind words (trace _) _ ∙ ap (λ (own : Option Path). run words (release_from plan own)) (trace_runs words line ∙ traced_shown plan words paths line shows in_range)
+    path_runs =
+        run_bind words (trace _) _
+        ∙ ap (λ (own : Option Path). run words (release_from plan own)) (trace_runs words line ∙ traced_shown plan words paths line shows in_range)
 
     -- so a release comes to what the set says of the line
     pub release_comes : ComesTo plan paths line (run words (release_steps plan line))
@@ -66,7 +50,8 @@ module _ (plan : Tables) (words : List ℕ) (paths : List Path) (laws : IsLawful
       by (Some own) e =
           let within = (found_passes (has_line line) paths own e).0 in
           let at = named_at plan own.place (shows.lawful.orderly.places own within) in
-          LetsGo (leave_of own (other_path plan paths own) at.found) e (record { within = within; found = at.found; here = at.here; group = refl; index = refl; other = refl })
+          LetsGo (leave_of own (other_path plan paths own) at.found) e
+          (record { within = within; found = at.found; here = at.here; group = refl; index = refl; other = refl })
           (
           path_runs
           ∙ ap (λ (o : Option Path). run words (release_from plan o)) e
@@ -91,12 +76,16 @@ module _ (plan : Tables) (words : List ℕ) (paths : List Path) (laws : IsLawful
       let same = sym (released_effects leave) in
       record {
         reply = refl;
-        shows = subst (λ (all : List Effect). ShowsOffice plan (perform_all (office plan) words all) (left paths leave)) same (leave_shows plan words paths leave laws long shows is);
+        shows =
+            subst (λ (all : List Effect). ShowsOffice plan (perform_all (office plan) words all) (left paths leave)) same
+            (leave_shows plan words paths leave laws long shows is);
         due = subst (λ (all : List Effect). AreDue (office plan) words all) same (leave_due plan words paths leave laws long shows is);
       }
 
   -- so a release decides as the one-marker office does
-  pub release_decides : (line : Line) → IsLine line → DecidesAs (office plan) words (record { state = (release plan paths line).paths; reply = (release plan paths line).reply }) (run words (release_steps plan line))
+  pub release_decides : (line : Line) → IsLine line
+      → DecidesAs (office plan) words (record { state = (release plan paths line).paths; reply = (release plan paths line).reply })
+      (run words (release_steps plan line))
   release_decides line in_range = by (release_comes plan words paths laws shows line in_range) where
     by : ComesTo plan paths line (run words (release_steps plan line)) → Decides (run words (release_steps plan line)) (release plan paths line)
     by (HasNone e d) =

@@ -1,53 +1,21 @@
 -- what a release changes in the words
-use Rattle.std.proofs.Common.{◌≡◌, ℕ, ◌+◌, ◌<◌, ◌≤◌, List, length, fold, inl, inr, refl, sym, ◌∙◌, ap, subst, arith, get_or-set_other}
-use Rattle.std.specs.Prelude.{Option, Some, slice_index, if◌then◌else◌}
-use Rattle.turns.specs.Attempt.{HasDecided, seen_of}
-use Rattle.turns.specs.Script.{run}
-use Rattle.turns.specs.Seen.{AreReadFrom}
-use Rattle.turns.specs.System.{perform_all}
-use Rattle.turns.proofs.Walks.{walk_run}
-use Rattle.xbar_equip.specs.Conn.{conn_eq}
-use Rattle.xbar_equip.specs.Len.{Line, IsLine}
-use Rattle.xbar_equip.specs.Among.{IsIn}
-use Rattle.xbar_equip.specs.Path.{IsPath}
-use Rattle.xbar_equip.specs.Paths.{without_path}
-use Rattle.xbar_equip.specs.declared.crosspoint.Crosspoint.{Crosspoint}
-use Rattle.xbar_equip.specs.declared.path.Path.{Path}
-use Rattle.xbar_equip.proofs.Meeting.{meet}
-use Rattle.xbar_equip.proofs.PathSets.{without-in}
-use Rattle.xbar_plan.specs.Tables.{Tables, member_place}
-use Rattle.xbar_plan.specs.Lawful.{IsLawful}
-use Rattle.xbar_plan.specs.declared.group.MemberPlace.{MemberPlace}
-use Rattle.xbar_plan.proofs.MemberPlaces.{member_place-numbers}
-use Rattle.xbar_match.specs.Effects.{IsCrosspoint, open_at}
-use Rattle.xbar_match.specs.Shows.{IsClosedIn}
-use Rattle.xbar_match.specs.Switches.{held_at, shape_at}
-use Rattle.xbar_match.proofs.PathEffects.{crosspoint}
-use Rattle.xbar_switch.specs.Field.{field_of}
-use Rattle.xbar_office.specs.Release.{without_other}
-use Rattle.xbar_office.specs.Standing.{other_path}
-use Rattle.xbar_office.specs.declared.job.Job.{Job}
-use Rattle.xbar_office.specs.declared.job.Job.TheVariants.{Release}
-use Rattle.xbar_office.specs.declared.reply.Card.{Card}
-use Rattle.xbar_office.specs.declared.reply.End.TheVariants.{NoCall, Released}
-use Rattle.xbar_office.specs.declared.reply.Reply.{Reply}
-use Rattle.xbar_office.proofs.EndsOfJobs.{left_in}
-use Rattle.xbar_jobs.specs.Attempt.{Attempt}
-use Rattle.xbar_jobs.specs.Closing.{effects, leave_effects, leave_of, refused, released}
-use Rattle.xbar_jobs.specs.Jobs.{script}
-use Rattle.xbar_jobs.specs.Office.{ShowsOffice, office}
-use Rattle.xbar_jobs.specs.Opening.{IsFieldOf, OpensJust, ReleasesJust, call_crosspoints}
-use Rattle.xbar_jobs.specs.Releasing.{release_steps}
-use Rattle.xbar_jobs.specs.declared.decision.Decision.{Decision}
-use Rattle.xbar_jobs.specs.declared.effect.Effect.{Effect}
-use Rattle.xbar_jobs.specs.declared.leave.Leave.{Leave}
-use Rattle.xbar_jobs.proofs.CallCrosspoints.{IsOfCall, of_call, leave_words, open_all-others}
-use Rattle.xbar_jobs.proofs.FreedMembers.{busy_before, freed_after, other_stays, others_as_before}
-use Rattle.xbar_jobs.proofs.LeaveEffects.{IsLeave, effects_show, effects_due, leave_is}
-use Rattle.xbar_jobs.proofs.OpenedPaths.{open_all-elsewhere}
-use Rattle.xbar_jobs.proofs.ReleaseDecides.{ComesTo, HasNone, LetsGo, release_comes, released_effects}
+use Rattle.std.proofs.Common.{◌≡◌, ℕ, ◌+◌, ◌<◌, ◌≤◌, List, length, fold, inl, inr, refl, sym, ◌∙◌, ap, subst, arith, get_or-set_other, Option, Some}
+use Rattle.std.proofs.Common.{slice_index, if◌then◌else◌}
+use Rattle.turns.{specs.{Attempt.{HasDecided, seen_of}, Script.run, Seen.AreReadFrom, System.perform_all}, proofs.Walks.walk_run}
+use Rattle.xbar_equip.specs.{Conn.conn_eq, Len.{Line, IsLine}, Among.IsIn, Path.IsPath, Paths.without_path, declared.crosspoint.Crosspoint.Crosspoint}
+use Rattle.xbar_equip.{specs.declared.path.Path.Path, proofs.{Meeting.meet, PathSets.without-in}}
+use Rattle.xbar_plan.{specs.{Tables.{Tables, member_place}, Lawful.IsLawful, declared.group.MemberPlace.MemberPlace}, proofs.MemberPlaces.member_place-numbers}
+use Rattle.xbar_match.{specs.{Effects.{IsCrosspoint, open_at}, Shows.IsClosedIn, Switches.{held_at, shape_at}}, proofs.PathEffects.crosspoint}
+use Rattle.{xbar_switch.specs.Field.field_of, xbar_office.specs.{Release.without_other, Standing.other_path, declared.job.Job.{Job, TheVariants.Release}}}
+use Rattle.xbar_office.{specs.declared.reply.{Card.Card, End.TheVariants.{NoCall, Released}, Reply.Reply}, proofs.EndsOfJobs.left_in}
+use Rattle.xbar_jobs.specs.{Attempt.Attempt, Closing.{effects, leave_effects, leave_of, refused, released}, Jobs.script, Office.{ShowsOffice, office}}
+use Rattle.xbar_jobs.specs.{Opening.{IsFieldOf, OpensJust, ReleasesJust, call_crosspoints}, Releasing.release_steps, declared.decision.Decision.Decision}
+use Rattle.xbar_jobs.{specs.declared.{effect.Effect.Effect, leave.Leave.Leave}, proofs.CallCrosspoints.{IsOfCall, of_call, leave_words, open_all-others}}
+use Rattle.xbar_jobs.proofs.{FreedMembers.{busy_before, freed_after, other_stays, others_as_before}, LeaveEffects.{IsLeave, effects_show, effects_due}}
+use Rattle.xbar_jobs.proofs.{LeaveEffects.leave_is, OpenedPaths.open_all-elsewhere, ReleaseDecides.{ComesTo, HasNone, LetsGo, release_comes, released_effects}}
 
-module _ (plan : Tables) (words : List ℕ) (paths : List Path) (own : Path) (found : MemberPlace) (laws : IsLawful plan) (long : 453 ≤ length words) (shows : ShowsOffice plan words paths)
+module _ (plan : Tables) (words : List ℕ) (paths : List Path) (own : Path) (found : MemberPlace) (laws : IsLawful plan) (long : 453 ≤ length words)
+    (shows : ShowsOffice plan words paths)
     (within : IsIn own paths) (here : member_place plan own.place ≡ Some found) where
   abbrev other : Option Path
   other = other_path plan paths own
@@ -110,12 +78,14 @@ module _ (plan : Tables) (words : List ℕ) (paths : List Path) (own : Path) (fo
 
   -- a word other than the group's is what the opened crosspoints make of it
   word_after : (n : ℕ) → (n ≡ 400 + found.group → ⊥) → slice_index after n ≡ slice_index opened n
-  word_after n apart = ap (λ (all : List ℕ). slice_index all n) (leave_words plan words own other found) ∙ get_or-set_other opened (400 + found.group) n _ 0 apart
+  word_after n apart =
+      ap (λ (all : List ℕ). slice_index all n) (leave_words plan words own other found) ∙ get_or-set_other opened (400 + found.group) n _ 0 apart
 
   others_kept : (n v : ℕ) → n < 400 → v < 10 → ¬ IsFieldOf cs n v → held_at after n v ≡ held_at words n v
   others_kept n v below in_range apart =
       ap (λ (word : ℕ). field_of (shape_at n) word v) (word_after n (λ same. omega arith))
-      ∙ open_all-others words cs n v (omega arith) is_crosspoint in_range (λ c there word field. apart (record { c = c; within = there; word = word; field = field }))
+      ∙ open_all-others words cs n v (omega arith) is_crosspoint in_range
+      (λ c there word field. apart (record { c = c; within = there; word = word; field = field }))
 
   behind_kept : (n : ℕ) → 416 ≤ n → slice_index after n ≡ slice_index words n
   behind_kept n behind =
@@ -139,10 +109,12 @@ module _ (plan : Tables) (words : List ℕ) (paths : List Path) (own : Path) (fo
   }
 
   call_released : ReleasesJust plan own other words (leave_effects (leave_of own other found))
-  call_released = record { found = found; here = here; effects_are = refl; due = effects_due plan words paths own found laws long shows within here; change = opens_just }
+  call_released =
+      record { found = found; here = here; effects_are = refl; due = effects_due plan words paths own found laws long shows within here; change = opens_just }
 
 -- what lets a call go opens just its crosspoints, and clears just its member's bit
-pub releases_just : (plan : Tables) (words : List ℕ) (paths : List Path) → IsLawful plan → 453 ≤ length words → ShowsOffice plan words paths → (leave : Leave) → IsLeave plan paths leave
+pub releases_just : (plan : Tables) (words : List ℕ) (paths : List Path) → IsLawful plan → 453 ≤ length words → ShowsOffice plan words paths → (leave : Leave)
+    → IsLeave plan paths leave
     → (found : MemberPlace) → member_place plan leave.own.place ≡ Some found → ReleasesJust plan leave.own leave.other words (leave_effects leave)
 releases_just plan words paths laws long shows leave is found here =
     subst (λ (l : Leave). ReleasesJust plan l.own l.other words (leave_effects l)) (sym (leave_is plan paths leave is))
@@ -158,7 +130,8 @@ module _ (plan : Tables) (a : Attempt) (line : Line) (own : Path) (other : Optio
       ∙ walk_run conn_eq words (seen_of a) (script plan a.job) decided.decision read decided.come
 
   -- so the reply's end is the decision's
-  end_is : (cards : List Card) (decision : Decision) → a.reply ≡ Some (record { end = Released own other; cards = cards }) → decided.decision ≡ decision → Released own other ≡ decision.reply.end
+  end_is : (cards : List Card) (decision : Decision) → a.reply ≡ Some (record { end = Released own other; cards = cards }) → decided.decision ≡ decision
+      → Released own other ≡ decision.reply.end
   end_is cards decision reply d =
       let both : Some (record { end = Released own other; cards = cards }) ≡ Some decided.decision.reply = sym reply ∙ decided.reply in
       let one : record { end = Released own other; cards = cards } ≡ decided.decision.reply = cc in
@@ -182,7 +155,8 @@ module _ (plan : Tables) (a : Attempt) (line : Line) (own : Path) (other : Optio
       subst (λ (made : List Effect). ReleasesJust plan own other words made) (sym (effects_are leave d)) of_both
 
   -- from its turn on a release opens just the call that its reply names
-  pub a_release_opens_just_its_call : (cards : List Card) → a.reply ≡ Some (record { end = Released own other; cards = cards }) → length words ≡ 453 → ShowsOffice plan words paths → AreReadFrom words a.readings
+  pub a_release_opens_just_its_call : (cards : List Card) → a.reply ≡ Some (record { end = Released own other; cards = cards }) → length words ≡ 453
+      → ShowsOffice plan words paths → AreReadFrom words a.readings
       → ReleasesJust plan own other words a.effects
   a_release_opens_just_its_call cards reply size shows read =
       from_decision cards reply size shows (subst (ComesTo plan paths line) (decision_is read) (release_comes plan words paths laws shows line in_range))

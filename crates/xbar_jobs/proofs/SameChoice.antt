@@ -1,7 +1,5 @@
-use Rattle.std.proofs.Common.{◌≡◌, ℕ, ◌+◌, ◌-◌, ◌<◌, Bool, ◌∙◌, ap, arith}
-use Rattle.std.specs.Prelude.{Option, Some, None, unwrap_or, option_map}
-use Rattle.xbar_equip.specs.First.{first_below, next_below, IsFirstBelow}
-use Rattle.xbar_equip.proofs.FirstNumber.{first_below-law, first_below-found, first_below-none}
+use Rattle.std.proofs.Common.{◌≡◌, ℕ, ◌+◌, ◌-◌, ◌<◌, Bool, ◌∙◌, ap, arith, Option, Some, None, unwrap_or, option_map}
+use Rattle.xbar_equip.{specs.First.{first_below, next_below, IsFirstBelow}, proofs.FirstNumber.{first_below-law, first_below-found, first_below-none}}
 
 -- two tests that answer alike below a count find the same first number
 pub first_below-same : (test other : ℕ → Bool) (count : ℕ) → ((j : ℕ) → j < count → test j ≡ other j) → first_below test count ≡ first_below other count

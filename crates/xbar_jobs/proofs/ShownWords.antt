@@ -1,21 +1,11 @@
 -- protected words that show a set of paths have 64 bits
-use Rattle.std.proofs.Common.{◌≡◌, ℕ, ◌-◌, ◌<◌, ◌≤◌, ◌^◌, bit_and, inl, inr, refl, sym, ◌∙◌, subst, arith}
-use Rattle.std.specs.Prelude.{◌⊎◌, Option, Some, None, List, slice_index, min, if◌then◌else◌}
-use Rattle.std.specs.Int.{bit_at}
-use Rattle.std.proofs.lemmas.Bool.{cases_lt}
-use Rattle.std.proofs.lemmas.Nat.{and_le_r}
-use Rattle.std.proofs.lemmas.Nat.Bits.{bit_at-lt, bit_at_and, bit_at_ones, same_from_bits}
+use Rattle.std.proofs.Common.{◌≡◌, ℕ, ◌-◌, ◌<◌, ◌≤◌, ◌^◌, bit_and, inl, inr, refl, sym, ◌∙◌, subst, arith, ◌⊎◌, Option, Some, None, List, slice_index, min}
+use Rattle.std.proofs.Common.{if◌then◌else◌}
+use Rattle.std.{specs.Int.bit_at, proofs.lemmas.{Bool.cases_lt, Nat.{and_le_r, Bits.{bit_at-lt, bit_at_and, bit_at_ones, same_from_bits}}}}
 use Rattle.xbar_equip.specs.Word.{Word, IsWord, LineSwitch, LineJunctor, TrunkSwitch, TrunkJunctor, GroupWord, ConnWord, TurnWord, protector, word_number}
-use Rattle.xbar_equip.specs.declared.conn.Conn.{Conn}
-use Rattle.xbar_equip.specs.declared.path.Path.{Path}
-use Rattle.xbar_match.specs.Switches.{shape_at}
-use Rattle.xbar_match.proofs.OneCrosspoint.{no_more-lt}
-use Rattle.xbar_plan.specs.Lawful.{IsLawful}
-use Rattle.xbar_plan.specs.Tables.{Tables, member_at}
-use Rattle.xbar_plan.specs.declared.group.Member.{Member}
-use Rattle.xbar_plan.proofs.LawfulPlans.{member-numbers}
-use Rattle.xbar_jobs.specs.Office.{GroupShows, Protects, ShowsOffice}
-use Rattle.xbar_jobs.proofs.BusyMembers.{busy_of}
+use Rattle.{xbar_equip.specs.declared.{conn.Conn.Conn, path.Path.Path}, xbar_match.{specs.Switches.shape_at, proofs.OneCrosspoint.no_more-lt}}
+use Rattle.xbar_plan.{specs.{Lawful.IsLawful, Tables.{Tables, member_at}, declared.group.Member.Member}, proofs.LawfulPlans.member-numbers}
+use Rattle.xbar_jobs.{specs.Office.{GroupShows, Protects, ShowsOffice}, proofs.BusyMembers.busy_of}
 
 -- a number that has no bit from 64 on has 64 bits
 no_bits_past : (word : ℕ) → ((index : ℕ) → 64 ≤ index → bit_at word index ≡ 0) → word < 2 ^ 64

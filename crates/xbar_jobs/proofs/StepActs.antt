@@ -1,14 +1,10 @@
 -- a step's word, operation and answer are those of the act that it makes
 use Rattle.std.proofs.Common.{◌≡◌, ℕ, refl}
-use Rattle.turns.specs.Attempt as generic
-use Rattle.turns.specs.declared.act.Act.TheVariants.{Finished, Request, Seize, Withdraw, Free, Test, Turn, Make}
-use Rattle.turns.specs.World as worlds
-use Rattle.turns.specs.World.{place}
-use Rattle.xbar_plan.specs.Tables.{Tables}
-use Rattle.xbar_jobs.specs.Attempt.{Act, step_of}
-use Rattle.xbar_jobs.specs.Office.{office}
-use Rattle.xbar_jobs.specs.OnWords.{step_answer, operation, step_word}
+use Rattle.{turns.specs.{declared.act.Act.TheVariants.{Finished, Request, Seize, Withdraw, Free, Test, Turn, Make}, World.place}, xbar_plan.specs.Tables.Tables}
+use Rattle.xbar_jobs.specs.{Attempt.{Act, step_of}, Office.office, OnWords.{step_answer, operation, step_word}}
 use Rattle.xbar_jobs.specs.declared.effect.Effect.TheVariants.{Close, Open, SetBit, ClearBit}
+use Rattle.turns.specs.Attempt as generic
+use Rattle.turns.specs.World as worlds
 
 pub act_word : (plan : Tables) (act : Act) → step_word (step_of act) ≡ place (office plan) act
 act_word plan Finished = refl
@@ -36,7 +32,8 @@ act_operation plan marker (Make (Open c)) = refl
 act_operation plan marker (Make (SetBit number index)) = refl
 act_operation plan marker (Make (ClearBit number index)) = refl
 
-pub act_answer : (plan : Tables) (marker : ℕ) (act : Act) (found : ℕ) → step_answer marker (step_of act) found ≡ generic.answer_to (office plan) marker act found
+pub act_answer : (plan : Tables) (marker : ℕ) (act : Act) (found : ℕ)
+    → step_answer marker (step_of act) found ≡ generic.answer_to (office plan) marker act found
 act_answer plan marker Finished found = refl
 act_answer plan marker (Request conn) found = refl
 act_answer plan marker (Seize conn expected) found = refl

@@ -1,39 +1,19 @@
 -- what the effects of a member that was taken make of words that show a set of paths
-use Rattle.std.proofs.Common.{◌≡◌, ◌≢◌, ℕ, ◌+◌, ◌^◌, ◌<◌, ◌≤◌, List, [], ◌∷◌, ◌++◌, length, get_or, inl, inr, refl, sym, ◌∙◌, ap, subst, arith, get_or-set_same, get_or-set_other, length-set}
-use Rattle.std.specs.Prelude.{Option, Some, None, bit_or, slice_index, slice_set, if◌then◌else◌, map, fold}
-use Rattle.std.specs.Int.{bit_at}
-use Rattle.std.proofs.lemmas.Bool.{cases_eq}
-use Rattle.std.proofs.lemmas.Nat.Bits.{bit_at_or, bit_at-pow_same, bit_at-pow_other, bit_at-lt}
-use Rattle.std.proofs.lemmas.List.Sums.{fold-append}
-use Rattle.turns.specs.System.{AreDue, perform, perform_all}
-use Rattle.xbar_equip.specs.Among.{IsIn}
-use Rattle.xbar_equip.specs.Crosspoint.{crosspoints}
-use Rattle.xbar_equip.specs.Path.{IsPath}
-use Rattle.xbar_equip.specs.Paths.{with_path}
-use Rattle.xbar_equip.specs.Ten.{TrunkPlace}
-use Rattle.xbar_equip.specs.Word.{GroupWord}
-use Rattle.xbar_equip.specs.declared.crosspoint.Crosspoint.{Crosspoint}
-use Rattle.xbar_equip.specs.declared.path.Path.{Path}
-use Rattle.xbar_plan.specs.Tables.{Tables}
-use Rattle.xbar_plan.specs.Lawful.{IsLawful}
-use Rattle.xbar_plan.proofs.LawfulPlans.{member-numbers}
-use Rattle.xbar_match.specs.Effects.{close_at, close_path, EachCloses}
-use Rattle.xbar_match.specs.Shows.{WordShows, IsClosedIn, ShowsPaths}
-use Rattle.xbar_match.specs.Switches.{word_of}
+use Rattle.std.proofs.Common.{◌≡◌, ◌≢◌, ℕ, ◌+◌, ◌^◌, ◌<◌, ◌≤◌, List, [], ◌∷◌, ◌++◌, length, get_or, inl, inr, refl, sym, ◌∙◌, ap, subst, arith, get_or-set_same}
+use Rattle.std.proofs.Common.{get_or-set_other, length-set, Option, Some, None, bit_or, slice_index, slice_set, if◌then◌else◌, map, fold}
+use Rattle.std.{specs.Int.bit_at, proofs.lemmas.{Bool.cases_eq, Nat.Bits.{bit_at_or, bit_at-pow_same, bit_at-pow_other, bit_at-lt}, List.Sums.fold-append}}
+use Rattle.{turns.specs.System.{AreDue, perform, perform_all}, xbar_equip.specs.{Among.IsIn, Crosspoint.crosspoints, Path.IsPath, Paths.with_path}}
+use Rattle.xbar_equip.specs.{Ten.TrunkPlace, Word.GroupWord, declared.{crosspoint.Crosspoint.Crosspoint, path.Path.Path}}
+use Rattle.xbar_plan.{specs.{Tables.Tables, Lawful.IsLawful}, proofs.LawfulPlans.member-numbers}
+use Rattle.xbar_match.specs.{Effects.{close_at, close_path, EachCloses}, Shows.{WordShows, IsClosedIn, ShowsPaths}, Switches.word_of}
 use Rattle.xbar_match.proofs.PathEffects.{crosspoint, four_closed, close_path-shows, with_path-adds}
-use Rattle.xbar_office.specs.Chosen.{with_chosen}
-use Rattle.xbar_office.specs.Done.{with_call_paths}
-use Rattle.xbar_office.specs.LawfulSet.{IsLawfulSet, IsOrderlySet}
-use Rattle.xbar_office.specs.declared.trial.CallPaths.{CallPaths}
-use Rattle.xbar_office.proofs.StandingPaths.{CanStand, orderly-with}
-use Rattle.xbar_office.proofs.TakenMembers.{CalledCanStand, CanTake, lawful-take}
-use Rattle.xbar_jobs.specs.Closing.{path_closes, called_closes, take_effects, IsDue}
-use Rattle.xbar_jobs.specs.Office.{is_busy_at, GroupShows, ShowsOffice, office}
-use Rattle.xbar_jobs.specs.declared.effect.Effect.{Effect}
-use Rattle.xbar_jobs.specs.declared.effect.Effect.TheVariants.{Close, SetBit}
-use Rattle.xbar_jobs.proofs.BusyMembers.{idle_before, busy_after, others_after}
+use Rattle.xbar_office.specs.{Chosen.with_chosen, Done.with_call_paths, LawfulSet.{IsLawfulSet, IsOrderlySet}, declared.trial.CallPaths.CallPaths}
+use Rattle.xbar_office.proofs.{StandingPaths.{CanStand, orderly-with}, TakenMembers.{CalledCanStand, CanTake, lawful-take}}
+use Rattle.xbar_jobs.specs.{Closing.{path_closes, called_closes, take_effects, IsDue}, Office.{is_busy_at, GroupShows, ShowsOffice, office}}
+use Rattle.xbar_jobs.{specs.declared.effect.Effect.{Effect, TheVariants.{Close, SetBit}}, proofs.BusyMembers.{idle_before, busy_after, others_after}}
 
-close_all-elsewhere : (words : List ℕ) (cs : List Crosspoint) (n : ℕ) → ((c : Crosspoint) → IsIn c cs → n ≢ c.word) → get_or (fold close_at words cs) n 0 ≡ get_or words n 0
+close_all-elsewhere : (words : List ℕ) (cs : List Crosspoint) (n : ℕ) → ((c : Crosspoint) → IsIn c cs → n ≢ c.word)
+    → get_or (fold close_at words cs) n 0 ≡ get_or words n 0
 close_all-elsewhere words [] n other = refl
 close_all-elsewhere words (c ∷ cs) n other =
     close_all-elsewhere (close_at words c) cs n (λ d within. other d (inr within))
@@ -71,12 +51,14 @@ bit-kept word k i other =
 
 module _ (plan : Tables) where
   -- effects and then others
-  pub perform_all-append : (words : List ℕ) (first others : List Effect) → perform_all (office plan) words (first ++ others) ≡ perform_all (office plan) (perform_all (office plan) words first) others
+  pub perform_all-append : (words : List ℕ) (first others : List Effect)
+      → perform_all (office plan) words (first ++ others) ≡ perform_all (office plan) (perform_all (office plan) words first) others
   unfolding perform_all
   perform_all-append words first others = fold-append (perform (office plan)) words first others
 
   -- effects that are due, and then others that are due after them
-  pub due-append : (words : List ℕ) (first others : List Effect) → AreDue (office plan) words first → AreDue (office plan) (perform_all (office plan) words first) others → AreDue (office plan) words (first ++ others)
+  pub due-append : (words : List ℕ) (first others : List Effect) → AreDue (office plan) words first
+      → AreDue (office plan) (perform_all (office plan) words first) others → AreDue (office plan) words (first ++ others)
   unfolding perform_all
   due-append words [] others due later = later
   due-append words (effect ∷ first) others due later = (due.0, due-append (perform (office plan) words effect) first others due.1 later)
@@ -104,7 +86,8 @@ module _ (plan : Tables) where
   nothing_added words paths shows = record { switches = shows; behind = λ n above. refl; size = refl; due = tt }
 
   -- a path that may join the set is added by closing it
-  one_added : (words : List ℕ) (paths : List Path) (path : Path) → 400 ≤ length words → ShowsPaths words paths → IsOrderlySet plan paths → CanStand plan paths path → Adds words (path_closes path) (with_path paths path)
+  one_added : (words : List ℕ) (paths : List Path) (path : Path) → 400 ≤ length words → ShowsPaths words paths → IsOrderlySet plan paths
+      → CanStand plan paths path → Adds words (path_closes path) (with_path paths path)
   one_added words paths path long shows orderly can =
       let closed = sym (perform_all-path_closes words path) in
       record {
@@ -117,7 +100,8 @@ module _ (plan : Tables) where
       }
 
   -- and then others
-  pub more_added : (words : List ℕ) (first others : List Effect) (paths more : List Path) → Adds words first paths → Adds (perform_all (office plan) words first) others more → Adds words (first ++ others) more
+  pub more_added : (words : List ℕ) (first others : List Effect) (paths more : List Path) → Adds words first paths
+      → Adds (perform_all (office plan) words first) others more → Adds words (first ++ others) more
   more_added words first others paths more before after =
       let both = sym (perform_all-append words first others) in
       record {
@@ -128,7 +112,8 @@ module _ (plan : Tables) where
       }
 
   -- these effects leave the groups' words as they were
-  module _ (words : List ℕ) (paths more : List Path) (effects : List Effect) (long : 453 ≤ length words) (shows : ShowsOffice plan words paths) (added : Adds words effects more) where
+  module _ (words : List ℕ) (paths more : List Path) (effects : List Effect) (long : 453 ≤ length words) (shows : ShowsOffice plan words paths)
+      (added : Adds words effects more) where
     abbrev between : List ℕ
     between = perform_all (office plan) words effects
 
@@ -137,7 +122,8 @@ module _ (plan : Tables) where
 
     -- so once the word of a member's group shows its bit too, the words show the set that the effects lead to
     module _ (group index word : ℕ) (in_range : group < 16) (lawful : IsLawfulSet plan more)
-        (apart : (number at : ℕ) → (number ≡ group → at ≡ index → ⊥) → is_busy_at plan more number at ≡ is_busy_at plan paths number at) (own : GroupShows plan more group word) where
+        (apart : (number at : ℕ) → (number ≡ group → at ≡ index → ⊥) → is_busy_at plan more number at ≡ is_busy_at plan paths number at)
+        (own : GroupShows plan more group word) where
       abbrev after : List ℕ
       after = slice_set between (400 + group) word
 
@@ -165,13 +151,15 @@ module _ (plan : Tables) where
       pub member_shows : ShowsOffice plan after more
       member_shows = record { lawful = lawful; switches = record { switch = switch_shows }; groups = group_shows }
 
-  called_added : (words : List ℕ) (paths : List Path) (second : Option TrunkPlace) (called : Option Path) → 400 ≤ length words → ShowsPaths words paths → IsOrderlySet plan paths → CalledCanStand plan paths second called → Adds words (called_closes called) (with_chosen paths called)
+  called_added : (words : List ℕ) (paths : List Path) (second : Option TrunkPlace) (called : Option Path) → 400 ≤ length words → ShowsPaths words paths
+      → IsOrderlySet plan paths → CalledCanStand plan paths second called → Adds words (called_closes called) (with_chosen paths called)
   called_added words paths None None long shows orderly can = nothing_added words paths shows
   called_added words paths None (Some called) long shows orderly can = absurd can
   called_added words paths (Some second) None long shows orderly can = absurd can
   called_added words paths (Some second) (Some called) long shows orderly can = one_added words paths called long shows orderly can.1
 
-  module _ (words : List ℕ) (paths : List Path) (group index : ℕ) (call : CallPaths) (laws : IsLawful plan) (long : 453 ≤ length words) (shows : ShowsOffice plan words paths) (can : CanTake plan paths group index call) where
+  module _ (words : List ℕ) (paths : List Path) (group index : ℕ) (call : CallPaths) (laws : IsLawful plan) (long : 453 ≤ length words)
+      (shows : ShowsOffice plan words paths) (can : CanTake plan paths group index call) where
     abbrev closes : List Effect
     closes = path_closes call.calling ++ called_closes call.called
 
@@ -186,7 +174,8 @@ module _ (plan : Tables) where
     call_added =
         let first = one_added words paths call.calling (omega arith) shows.switches shows.lawful.orderly can.calling in
         more_added words (path_closes call.calling) (called_closes call.called) (with_path paths call.calling) more first
-        (called_added (perform_all (office plan) words (path_closes call.calling)) (with_path paths call.calling) can.member.second call.called (omega (arith, first.size)) first.switches (orderly-with plan paths call.calling can.calling shows.lawful.orderly) can.called)
+        (called_added (perform_all (office plan) words (path_closes call.calling)) (with_path paths call.calling) can.member.second call.called
+        (omega (arith, first.size)) first.switches (orderly-with plan paths call.calling can.calling shows.lawful.orderly) can.called)
 
     group_range : group < 16
     group_range = (member-numbers plan laws group index can.member can.listed).0

@@ -1,24 +1,11 @@
 -- parties whose words are those of their line switches, also once effects are made
-use Rattle.std.proofs.Common.{◌≡◌, ℕ, ◌<◌, List, [], ◌∷◌, ◌++◌, inl, inr, refl, sym, ◌∙◌, ap, subst, length, arith}
-use Rattle.std.specs.Prelude.{Some, option_map}
-use Rattle.turns.specs.Among.{IsIn}
-use Rattle.turns.specs.System.{perform_all}
-use Rattle.turns.proofs.Completed.{perform_index}
-use Rattle.xbar_equip.specs.Len.{Line, IsLine}
-use Rattle.xbar_equip.specs.Path.{IsPath}
-use Rattle.xbar_equip.specs.Word.{word_number, LineSwitch}
-use Rattle.xbar_equip.specs.declared.path.Path.{Path}
-use Rattle.xbar_match.specs.Switches.{word_of}
+use Rattle.std.proofs.Common.{◌≡◌, ℕ, ◌<◌, List, [], ◌∷◌, ◌++◌, inl, inr, refl, sym, ◌∙◌, ap, subst, length, arith, Some, option_map}
+use Rattle.turns.{specs.{Among.IsIn, System.perform_all}, proofs.Completed.perform_index}
+use Rattle.{xbar_equip.specs.{Len.{Line, IsLine}, Path.IsPath, Word.{word_number, LineSwitch}, declared.path.Path.Path}, xbar_match.specs.Switches.word_of}
 use Rattle.xbar_match.proofs.PathEffects.{crosspoint_line, crosspoint_line_junctor, crosspoint_trunk_junctor, crosspoint_trunk}
-use Rattle.xbar_office.specs.declared.trial.Parties.{Parties}
-use Rattle.xbar_plan.specs.Tables.{Tables}
-use Rattle.xbar_jobs.specs.Closing.{effect_word, value_after, path_closes, path_opens}
-use Rattle.xbar_jobs.specs.Office.{office}
-use Rattle.xbar_jobs.specs.Sides.{party_after}
-use Rattle.xbar_jobs.specs.declared.effect.Effect.{Effect}
-use Rattle.xbar_jobs.specs.declared.effect.Effect.TheVariants.{ClearBit}
-use Rattle.xbar_jobs.specs.declared.party.CallParties.{CallParties}
-use Rattle.xbar_jobs.specs.declared.party.Party.{Party}
+use Rattle.{xbar_office.specs.declared.trial.Parties.Parties, xbar_plan.specs.Tables.Tables}
+use Rattle.xbar_jobs.specs.{Closing.{effect_word, value_after, path_closes, path_opens}, Office.office, Sides.party_after, declared.effect.Effect.Effect}
+use Rattle.xbar_jobs.specs.declared.{effect.Effect.TheVariants.ClearBit, party.{CallParties.CallParties, Party.Party}}
 
 -- a party of a line that there is, with its word among these
 pub record TestedOn (words : List ℕ) (party : Party) : Type 0 where
@@ -51,16 +38,23 @@ closes_below path range effect (inr (inr (inr (inl e)))) = subst (λ (one : Effe
 closes_below path range effect (inr (inr (inr (inr none)))) = absurd none
 
 -- and opened in them; a member's bit is cleared in the words of the sixteen groups
-pub opens_below : (path : Path) → IsPath path → (group index : ℕ) → group < 16 → (effect : Effect) → IsIn effect (path_opens path ++ ClearBit group index ∷ []) → effect_word effect < 416
-opens_below path range group index few effect (inl e) = subst (λ (one : Effect). effect_word one < 416) (sym e) (omega (arith, (crosspoint_line path range).word))
-opens_below path range group index few effect (inr (inl e)) = subst (λ (one : Effect). effect_word one < 416) (sym e) (omega (arith, (crosspoint_line_junctor path range).word))
-opens_below path range group index few effect (inr (inr (inl e))) = subst (λ (one : Effect). effect_word one < 416) (sym e) (omega (arith, (crosspoint_trunk_junctor path range).word))
-opens_below path range group index few effect (inr (inr (inr (inl e)))) = subst (λ (one : Effect). effect_word one < 416) (sym e) (omega (arith, (crosspoint_trunk path range).word))
+pub opens_below : (path : Path) → IsPath path → (group index : ℕ) → group < 16 → (effect : Effect) → IsIn effect (path_opens path ++ ClearBit group index ∷ [])
+    → effect_word effect < 416
+opens_below path range group index few effect (inl e) =
+    subst (λ (one : Effect). effect_word one < 416) (sym e) (omega (arith, (crosspoint_line path range).word))
+opens_below path range group index few effect (inr (inl e)) =
+    subst (λ (one : Effect). effect_word one < 416) (sym e) (omega (arith, (crosspoint_line_junctor path range).word))
+opens_below path range group index few effect (inr (inr (inl e))) =
+    subst (λ (one : Effect). effect_word one < 416) (sym e) (omega (arith, (crosspoint_trunk_junctor path range).word))
+opens_below path range group index few effect (inr (inr (inr (inl e)))) =
+    subst (λ (one : Effect). effect_word one < 416) (sym e) (omega (arith, (crosspoint_trunk path range).word))
 opens_below path range group index few effect (inr (inr (inr (inr (inl e))))) = subst (λ (one : Effect). effect_word one < 416) (sym e) (omega (arith, few))
 opens_below path range group index few effect (inr (inr (inr (inr (inr none))))) = absurd none
 
 -- a party's word as effects will leave it is the one that is found after them
-pub party_after-tested : (plan : Tables) (words : List ℕ) (effects : List Effect) → ((effect : Effect) → IsIn effect effects → effect_word effect < length words) → (party : Party) → TestedOn words party → TestedOn (perform_all (office plan) words effects) (party_after effects party)
+pub party_after-tested : (plan : Tables) (words : List ℕ) (effects : List Effect)
+    → ((effect : Effect) → IsIn effect effects → effect_word effect < length words) → (party : Party) → TestedOn words party
+    → TestedOn (perform_all (office plan) words effects) (party_after effects party)
 party_after-tested plan words effects below party tested = record {
   line = tested.line;
   word =

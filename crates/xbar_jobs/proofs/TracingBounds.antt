@@ -1,14 +1,8 @@
 -- how much it takes to approach a line, and to trace a path
-use Rattle.std.proofs.Common.{ℕ, arith}
-use Rattle.std.specs.Prelude.{Option, Some, None}
-use Rattle.turns.specs.Script.{◌>>=◌}
-use Rattle.xbar_equip.specs.Len.{Line}
-use Rattle.xbar_equip.specs.Ten.{TrunkPlace}
-use Rattle.xbar_switch.specs.declared.shape.Shape.TheVariants.{Other}
-use Rattle.xbar_match.specs.Traces.{field_at_place, place_at_field}
-use Rattle.xbar_jobs.specs.Tracing.{approach, channel_of, trace, trace_at, trace_back, trace_back_at, trace_back_by, trace_back_to, trace_by, trace_to}
-use Rattle.xbar_jobs.specs.declared.party.Party.{Party}
-use Rattle.xbar_jobs.proofs.AskBounds.{Asks}
+use Rattle.std.proofs.Common.{ℕ, arith, Option, Some, None}
+use Rattle.{turns.specs.Script.◌>>=◌, xbar_equip.specs.{Len.Line, Ten.TrunkPlace}, xbar_switch.specs.declared.shape.Shape.TheVariants.Other}
+use Rattle.{xbar_match.specs.Traces.{field_at_place, place_at_field}, xbar_jobs.specs.Tracing.{approach, channel_of, trace, trace_at, trace_back}}
+use Rattle.xbar_jobs.{specs.{Tracing.{trace_back_at, trace_back_by, trace_back_to, trace_by, trace_to}, declared.party.Party.Party}, proofs.AskBounds.Asks}
 
 -- a line is approached with one test and one seizing, of its line link frame
 pub approach_asks : (line : Line) → Asks 1 1 0 (approach line)

@@ -1,28 +1,12 @@
 -- approaching a line and tracing paths test what is held by then, and a path that is found is held
-use Rattle.std.proofs.Common.{◌≡◌, ℕ, zero, suc, ◌+◌, ◌<◌, nat_lt, if◌then◌else◌, Bool, true, false, List, [], ◌∷◌, ◌++◌, refl}
-use Rattle.std.specs.Prelude.{Option, Some, None, IfSome, option_map, ◌==◌}
-use Rattle.std.proofs.lemmas.Bool.{ltb-true}
-use Rattle.turns.specs.Among.{IsIn}
-use Rattle.turns.specs.Script.{◌>>=◌}
-use Rattle.turns.specs.System.{KeepsTo}
-use Rattle.turns.proofs.Lists.{in_last}
-use Rattle.xbar_equip.specs.First.{first_below, IsFirstBelow}
-use Rattle.xbar_equip.specs.Len.{Line, IsLine}
-use Rattle.xbar_equip.specs.Path.{path_by}
-use Rattle.xbar_equip.specs.Ten.{TrunkPlace}
-use Rattle.xbar_equip.specs.declared.conn.Conn.{Conn}
-use Rattle.xbar_equip.specs.declared.conn.Conn.TheVariants.{Llf, Tlf}
-use Rattle.xbar_equip.proofs.FirstNumber.{first_below-law}
-use Rattle.xbar_switch.specs.Field.{field_of}
-use Rattle.xbar_switch.specs.Shape.{places}
-use Rattle.xbar_switch.specs.declared.shape.Shape.{Shape}
-use Rattle.xbar_switch.specs.declared.shape.Shape.TheVariants.{Line as LineShape, Other}
-use Rattle.xbar_match.specs.Traces.{field_at_place, place_at_field, place_of_value}
-use Rattle.xbar_plan.specs.Tables.{Tables}
-use Rattle.xbar_jobs.specs.Office.{office}
+use Rattle.std.proofs.Common.{◌≡◌, ℕ, zero, suc, ◌+◌, ◌<◌, nat_lt, if◌then◌else◌, Bool, true, false, List, [], ◌∷◌, ◌++◌, refl, Option, Some, None, IfSome}
+use Rattle.std.proofs.Common.{option_map, ◌==◌, ltb-true}
+use Rattle.{turns.{specs.{Among.IsIn, Script.◌>>=◌, System.KeepsTo}, proofs.Lists.in_last}, xbar_equip.specs.{First.{first_below, IsFirstBelow}, Len.Line}}
+use Rattle.xbar_equip.{specs.{Len.IsLine, Path.path_by, Ten.TrunkPlace, declared.conn.Conn.{Conn, TheVariants.{Llf, Tlf}}}, proofs.FirstNumber.first_below-law}
+use Rattle.xbar_switch.specs.{Field.field_of, Shape.places, declared.shape.Shape.{Shape, TheVariants.{Line as LineShape, Other}}}
+use Rattle.{xbar_match.specs.Traces.{field_at_place, place_at_field, place_of_value}, xbar_plan.specs.Tables.Tables, xbar_jobs.specs.Office.office}
 use Rattle.xbar_jobs.specs.Tracing.{approach, channel_of, trace, trace_at, trace_back, trace_back_at, trace_back_by, trace_back_to, trace_by, trace_to}
-use Rattle.xbar_jobs.specs.declared.party.Party.{Party}
-use Rattle.xbar_jobs.proofs.HeldEffects.{IsHeldIfAny, IsHeldLine, IsHeldPlace, line_held, place_held}
+use Rattle.xbar_jobs.{specs.declared.party.Party.Party, proofs.HeldEffects.{IsHeldIfAny, IsHeldLine, IsHeldPlace, line_held, place_held}}
 use Rattle.xbar_jobs.proofs.HeldWords.{one_more, line_junctor_under, line_switch_under, trunk_junctor_under, trunk_switch_under}
 
 -- the field at a place is one of ten
@@ -59,14 +43,16 @@ module _ (plan : Tables) where
 
   -- a line's path, from the line's switch on
   module _ (line : Line) (channel : ℕ) (below : channel < 10) where
-    trace_at_keeps : (held : List Conn) (frame : ℕ) (switch : Option ℕ) → IsHeldLine held line → frame < 10 → IsIn (Tlf frame) held → IfSome switch (λ s. s < 10) → KeepsTo (office plan) IsHeldIfAny held (trace_at line channel frame switch)
+    trace_at_keeps : (held : List Conn) (frame : ℕ) (switch : Option ℕ) → IsHeldLine held line → frame < 10 → IsIn (Tlf frame) held
+        → IfSome switch (λ s. s < 10) → KeepsTo (office plan) IsHeldIfAny held (trace_at line channel frame switch)
     unfolding KeepsTo trace_at ◌>>=◌
     trace_at_keeps held frame None line_own in_frame own in_switch = tt
     trace_at_keeps held frame (Some switch) line_own in_frame own in_switch = (
       trunk_switch_under plan held frame switch own in_frame in_switch,
       λ word fits. of (place_at_field Other word channel) (place_below Other word channel),
     ) where
-      of : (found : Option ℕ) → IfSome found (λ a. a < 10) → IsHeldIfAny held (option_map (λ appearance. path_by line (record { frame = frame; switch = switch; appearance = appearance }) channel) found)
+      of : (found : Option ℕ) → IfSome found (λ a. a < 10)
+          → IsHeldIfAny held (option_map (λ appearance. path_by line (record { frame = frame; switch = switch; appearance = appearance }) channel) found)
       of None range = tt
       of (Some appearance) range = record {
         line = line_own;
@@ -74,7 +60,8 @@ module _ (plan : Tables) where
         place = record { range = record { frame = in_frame; switch = in_switch; appearance = range }; own = own };
       }
 
-    trace_to_keeps : (held : List Conn) (frame : Option ℕ) → IsHeldLine held line → IfSome frame (λ f. f < 10) → KeepsTo (office plan) IsHeldIfAny held (trace_to line channel frame)
+    trace_to_keeps : (held : List Conn) (frame : Option ℕ) → IsHeldLine held line → IfSome frame (λ f. f < 10)
+        → KeepsTo (office plan) IsHeldIfAny held (trace_to line channel frame)
     unfolding KeepsTo trace_to ◌>>=◌
     trace_to_keeps held None line_own in_frame = tt
     trace_to_keeps held (Some frame) line_own in_frame =
@@ -88,7 +75,8 @@ module _ (plan : Tables) where
           ),
         )
 
-  trace_by_keeps : (held : List Conn) (line : Line) (channel : Option ℕ) → IsHeldLine held line → IfSome channel (λ c. c < 10) → KeepsTo (office plan) IsHeldIfAny held (trace_by line channel)
+  trace_by_keeps : (held : List Conn) (line : Line) (channel : Option ℕ) → IsHeldLine held line → IfSome channel (λ c. c < 10)
+      → KeepsTo (office plan) IsHeldIfAny held (trace_by line channel)
   unfolding KeepsTo trace_by ◌>>=◌
   trace_by_keeps held line None own below = tt
   trace_by_keeps held line (Some channel) own below = (
@@ -103,14 +91,16 @@ module _ (plan : Tables) where
 
   -- a place's path, from the place's switch on
   module _ (place : TrunkPlace) (channel : ℕ) (below : channel < 10) where
-    trace_back_at_keeps : (held : List Conn) (frame : ℕ) (switch : Option ℕ) → IsHeldPlace held place → frame < 10 → IsIn (Llf frame) held → IfSome switch (λ s. s < 10) → KeepsTo (office plan) IsHeldIfAny held (trace_back_at place channel frame switch)
+    trace_back_at_keeps : (held : List Conn) (frame : ℕ) (switch : Option ℕ) → IsHeldPlace held place → frame < 10 → IsIn (Llf frame) held
+        → IfSome switch (λ s. s < 10) → KeepsTo (office plan) IsHeldIfAny held (trace_back_at place channel frame switch)
     unfolding KeepsTo trace_back_at ◌>>=◌
     trace_back_at_keeps held frame None place_own in_frame own in_switch = tt
     trace_back_at_keeps held frame (Some switch) place_own in_frame own in_switch = (
       line_switch_under plan held frame switch own in_frame in_switch,
       λ word fits. of (place_at_field LineShape word channel) (place_below LineShape word channel),
     ) where
-      of : (found : Option ℕ) → IfSome found (λ x. x < 30) → IsHeldIfAny held (option_map (λ x. path_by (record { frame = frame; switch = switch; x = x }) place channel) found)
+      of : (found : Option ℕ) → IfSome found (λ x. x < 30)
+          → IsHeldIfAny held (option_map (λ x. path_by (record { frame = frame; switch = switch; x = x }) place channel) found)
       of None range = tt
       of (Some x) range = record {
         line = record { range = record { frame = in_frame; switch = in_switch; x = range }; own = own };
@@ -118,7 +108,8 @@ module _ (plan : Tables) where
         place = place_own;
       }
 
-    trace_back_to_keeps : (held : List Conn) (frame : Option ℕ) → IsHeldPlace held place → IfSome frame (λ f. f < 10) → KeepsTo (office plan) IsHeldIfAny held (trace_back_to place channel frame)
+    trace_back_to_keeps : (held : List Conn) (frame : Option ℕ) → IsHeldPlace held place → IfSome frame (λ f. f < 10)
+        → KeepsTo (office plan) IsHeldIfAny held (trace_back_to place channel frame)
     unfolding KeepsTo trace_back_to ◌>>=◌
     trace_back_to_keeps held None place_own in_frame = tt
     trace_back_to_keeps held (Some frame) place_own in_frame =
@@ -132,7 +123,8 @@ module _ (plan : Tables) where
           ),
         )
 
-  trace_back_by_keeps : (held : List Conn) (place : TrunkPlace) (channel : Option ℕ) → IsHeldPlace held place → IfSome channel (λ c. c < 10) → KeepsTo (office plan) IsHeldIfAny held (trace_back_by place channel)
+  trace_back_by_keeps : (held : List Conn) (place : TrunkPlace) (channel : Option ℕ) → IsHeldPlace held place → IfSome channel (λ c. c < 10)
+      → KeepsTo (office plan) IsHeldIfAny held (trace_back_by place channel)
   unfolding KeepsTo trace_back_by ◌>>=◌
   trace_back_by_keeps held place None own below = tt
   trace_back_by_keeps held place (Some channel) own below = (

@@ -1,25 +1,12 @@
 -- how much it takes to find an idle member, and to try one
-use Rattle.std.proofs.Common.{ℕ, zero, suc, ◌+◌, ◌-◌, ◌≤◌, List, [], ◌∷◌, length, arith}
-use Rattle.std.specs.Prelude.{Option, Some, None, slice_get}
-use Rattle.std.specs.Option.{option_map_or}
-use Rattle.turns.specs.Script.{Ends, ◌>>=◌}
-use Rattle.xbar_equip.specs.Ten.{TrunkPlace}
-use Rattle.xbar_plan.specs.Tables.{Tables}
-use Rattle.xbar_plan.specs.declared.group.Member.{Member}
-use Rattle.xbar_office.specs.TwoTrials.{cards_of, second_decides}
-use Rattle.xbar_office.specs.declared.aim.Aim.{Aim}
-use Rattle.xbar_office.specs.declared.reply.Card.{Card}
-use Rattle.xbar_office.specs.declared.trial.TrialEnd.{TrialEnd}
-use Rattle.xbar_office.specs.declared.trial.TrialEnd.TheVariants.{Chosen, Faulty, NoChannel}
-use Rattle.xbar_jobs.specs.Connecting.{connect, try_trunk}
-use Rattle.xbar_jobs.specs.Script.{Script}
-use Rattle.xbar_jobs.specs.Sides.{Sides, reach, test_called, test_junctors, test_place, test_second, test_side, test_sides}
+use Rattle.std.proofs.Common.{ℕ, zero, suc, ◌+◌, ◌-◌, ◌≤◌, List, [], ◌∷◌, length, arith, Option, Some, None, slice_get}
+use Rattle.{std.specs.Option.option_map_or, turns.specs.Script.{Ends, ◌>>=◌}, xbar_equip.specs.Ten.TrunkPlace, xbar_plan.specs.Tables.Tables}
+use Rattle.{xbar_plan.specs.declared.group.Member.Member, xbar_office.specs.{TwoTrials.{cards_of, second_decides}, declared.{aim.Aim.Aim, reply.Card.Card}}}
+use Rattle.{xbar_office.specs.declared.trial.TrialEnd.{TrialEnd, TheVariants.{Chosen, Faulty, NoChannel}}, xbar_jobs.specs.Connecting.{connect, try_trunk}}
+use Rattle.xbar_jobs.specs.{Script.Script, Sides.{Sides, reach, test_called, test_junctors, test_place, test_second, test_side, test_sides}}
 use Rattle.xbar_jobs.specs.Trials.{after_first_trial, first_trial_steps, next_clear, second_trial_at, second_trial_steps, trial_end, two_trials_steps}
-use Rattle.xbar_jobs.specs.Trunks.{Trunks, find_trunk, first_clear, idle_or, trunks_of}
-use Rattle.xbar_jobs.specs.declared.party.CallParties.{CallParties}
-use Rattle.xbar_jobs.specs.declared.party.Party.{Party}
-use Rattle.xbar_jobs.specs.declared.trunks.IdleGroup.{IdleGroup}
-use Rattle.xbar_jobs.proofs.AskBounds.{Asks, asks_end, asks_more, asks_then}
+use Rattle.xbar_jobs.specs.{Trunks.{Trunks, find_trunk, first_clear, idle_or, trunks_of}, declared.party.{CallParties.CallParties, Party.Party}}
+use Rattle.xbar_jobs.{specs.declared.trunks.IdleGroup.IdleGroup, proofs.AskBounds.{Asks, asks_end, asks_more, asks_then}}
 
 -- the tests of line junctor switches are as many as are counted
 junctors_ask : (frame channel count : ℕ) → Asks count 0 0 (test_junctors frame channel count)
@@ -63,12 +50,14 @@ reach_asks member = (
 )
 
 -- the second trial has no more
-second_trial_asks : (plan : Tables) (sides : Sides) (cards : List Card) (index : ℕ) (member : Member) → Asks 2 1 1 (second_trial_steps plan sides cards index member)
+second_trial_asks : (plan : Tables) (sides : Sides) (cards : List Card) (index : ℕ) (member : Member)
+    → Asks 2 1 1 (second_trial_steps plan sides cards index member)
 unfolding Asks second_trial_steps
 second_trial_asks plan sides cards index member = asks_end 2 1 1 (reach member) _ (reach_asks member) (λ trunk. tt)
 
 -- if there is no member of this index, it asks for nothing
-second_trial_at_asks : (plan : Tables) (sides : Sides) (trunks : Trunks) (cards : List Card) (index : ℕ) → Asks 2 1 1 (second_trial_at plan sides trunks cards index)
+second_trial_at_asks : (plan : Tables) (sides : Sides) (trunks : Trunks) (cards : List Card) (index : ℕ)
+    → Asks 2 1 1 (second_trial_at plan sides trunks cards index)
 unfolding Asks second_trial_at
 second_trial_at_asks plan sides trunks cards index = at (slice_get trunks.members index) where
   at : (o : Option Member) → Asks 2 1 1 (option_map_or (second_trial_steps plan sides cards index) o (Ends (second_decides cards index NoChannel)))
@@ -83,11 +72,13 @@ after_trial_asks plan sides trunks first (Faulty link) = second_trial_at_asks pl
 after_trial_asks plan sides trunks first NoChannel = second_trial_at_asks plan sides trunks [] (next_clear trunks first)
 
 -- the first trial has the tests of the line junctor switches besides
-first_trial_asks : (plan : Tables) (parties : CallParties) (trunks : Trunks) (first : ℕ) (member : Member) → Asks 24 2 2 (first_trial_steps plan parties trunks first member)
+first_trial_asks : (plan : Tables) (parties : CallParties) (trunks : Trunks) (first : ℕ) (member : Member)
+    → Asks 24 2 2 (first_trial_steps plan parties trunks first member)
 unfolding first_trial_steps
 first_trial_asks plan parties trunks first member =
     asks_then 2 1 1 22 1 1 (reach member) _ (reach_asks member)
-    (λ trunk. asks_then 20 0 0 2 1 1 (test_sides parties) _ (sides_ask parties) (λ sides. after_trial_asks plan sides trunks first (trial_end plan sides 0 trunk)))
+    (λ trunk. asks_then 20 0 0 2 1 1 (test_sides parties) _ (sides_ask parties)
+    (λ sides. after_trial_asks plan sides trunks first (trial_end plan sides 0 trunk)))
 
 -- so two trials have 24 tests and two seizings
 two_trials_ask : (plan : Tables) (parties : CallParties) (trunks : Trunks) (first : ℕ) → Asks 24 2 2 (two_trials_steps plan parties trunks first)
@@ -98,7 +89,8 @@ two_trials_ask plan parties trunks first = at (slice_get trunks.members first) w
   at (Some member) = first_trial_asks plan parties trunks first member
 
 -- a group that is looked at has a test and a seizing
-idle_asks : (group word tests seizings most : ℕ) (next : Script (Option IdleGroup)) (found : Option ℕ) → Asks tests seizings most next → Asks tests seizings most (idle_or group word next found)
+idle_asks : (group word tests seizings most : ℕ) (next : Script (Option IdleGroup)) (found : Option ℕ) → Asks tests seizings most next
+    → Asks tests seizings most (idle_or group word next found)
 unfolding Asks idle_or
 idle_asks group word tests seizings most next None asks = asks
 idle_asks group word tests seizings most next (Some first) asks = tt
@@ -121,7 +113,8 @@ try_asks plan aim parties (Some idle) =
 
 -- parties are connected by one of `count` groups at most, with a test and a seizing for each, and
 -- two trials
-pub connect_asks : (plan : Tables) (aim : Aim) (parties : CallParties) (groups : List ℕ) (count : ℕ) → length groups ≤ count → Asks (count + 24) (count + 2) (count + 2) (connect plan aim parties groups)
+pub connect_asks : (plan : Tables) (aim : Aim) (parties : CallParties) (groups : List ℕ) (count : ℕ) → length groups ≤ count
+    → Asks (count + 24) (count + 2) (count + 2) (connect plan aim parties groups)
 unfolding connect
 connect_asks plan aim parties groups count few =
     asks_then count count count 24 2 2 (find_trunk plan groups) _

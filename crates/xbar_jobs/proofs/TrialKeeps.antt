@@ -1,48 +1,19 @@
 -- trials on a group's members test what is held by then, and the paths that they choose are held
-use Rattle.std.proofs.Common.{◌≡◌, ℕ, zero, suc, ◌+◌, ◌<◌, ◌≤◌, List, [], ◌∷◌, ◌++◌, inl, refl, sym, subst, arith}
-use Rattle.std.specs.Prelude.{Option, Some, None, IfSome, ⊤, find, option_and_then, option_map, slice_get}
-use Rattle.std.specs.Option.{option_map_or}
-use Rattle.std.proofs.lemmas.Option.{IfSome_then}
-use Rattle.turns.specs.Among.{IsIn}
-use Rattle.turns.specs.Script.{Ends, ◌>>=◌}
-use Rattle.turns.specs.System.{KeepsTo}
-use Rattle.turns.proofs.Keeping.{AreAmong}
-use Rattle.turns.proofs.Lists.{in_last}
-use Rattle.xbar_equip.specs.First.{first_below}
-use Rattle.xbar_equip.specs.Link.{Link}
-use Rattle.xbar_equip.specs.Path.{path_by}
-use Rattle.xbar_equip.specs.Paths.{channel_in_turn}
-use Rattle.xbar_equip.specs.Ten.{TrunkPlace, IsTrunkPlace}
-use Rattle.xbar_equip.specs.declared.conn.Conn.{Conn}
-use Rattle.xbar_equip.specs.declared.conn.Conn.TheVariants.{Llf, Tlf}
-use Rattle.xbar_equip.specs.declared.path.Path.{Path}
-use Rattle.xbar_match.specs.Channels.{is_open_channel, match_words}
-use Rattle.xbar_plan.specs.Lawful.{IsLawful}
-use Rattle.xbar_plan.specs.Tables.{Tables, is_faulty, member_at}
-use Rattle.xbar_plan.specs.declared.group.Member.{Member}
-use Rattle.xbar_plan.proofs.LawfulPlans.{member-numbers, pair-frame, place_at-range}
-use Rattle.xbar_office.specs.Members.{members_of}
-use Rattle.xbar_office.specs.Trial.{called_links, end_of, faulty_or_chosen, links}
-use Rattle.xbar_office.specs.TwoTrials.{cards_of, second_decides}
-use Rattle.xbar_office.specs.declared.reply.Card.{Card}
-use Rattle.xbar_office.specs.declared.trial.CallPaths.{CallPaths}
-use Rattle.xbar_office.specs.declared.trial.TrialEnd.{TrialEnd}
-use Rattle.xbar_office.specs.declared.trial.TrialEnd.TheVariants.{Chosen, Faulty, NoChannel}
-use Rattle.xbar_office.specs.declared.two_trials.Choice.{Choice}
-use Rattle.xbar_office.specs.declared.two_trials.Trials.{Trials}
-use Rattle.xbar_office.proofs.GoodTrials.{at_group}
-use Rattle.xbar_office.proofs.TakenMembers.{second-has}
-use Rattle.xbar_jobs.specs.Closing.{path_closes}
-use Rattle.xbar_jobs.specs.Office.{office}
-use Rattle.xbar_jobs.specs.Sides.{Side, Sides, join, join_called, open_path, reach, reached_after, side_after, test_called, test_junctors, test_place, test_second, test_side, test_sides}
+use Rattle.std.proofs.Common.{◌≡◌, ℕ, zero, suc, ◌+◌, ◌<◌, ◌≤◌, List, [], ◌∷◌, ◌++◌, inl, refl, sym, subst, arith, Option, Some, None, IfSome, find}
+use Rattle.std.proofs.Common.{option_and_then, option_map, slice_get}
+use Rattle.{std.{specs.{Prelude.⊤, Option.option_map_or}, proofs.lemmas.Option.IfSome_then}, turns.specs.{Among.IsIn, Script.{Ends, ◌>>=◌}, System.KeepsTo}}
+use Rattle.{turns.proofs.{Keeping.AreAmong, Lists.in_last}, xbar_equip.specs.{First.first_below, Link.Link, Path.path_by, Paths.channel_in_turn}}
+use Rattle.xbar_equip.specs.{Ten.{TrunkPlace, IsTrunkPlace}, declared.{conn.Conn.{Conn, TheVariants.{Llf, Tlf}}, path.Path.Path}}
+use Rattle.{xbar_match.specs.Channels.{is_open_channel, match_words}, xbar_plan.specs.{Lawful.IsLawful, Tables.{Tables, is_faulty, member_at}}}
+use Rattle.xbar_plan.{specs.declared.group.Member.Member, proofs.LawfulPlans.{member-numbers, pair-frame, place_at-range}}
+use Rattle.xbar_office.specs.{Members.members_of, Trial.{called_links, end_of, faulty_or_chosen, links}, TwoTrials.{cards_of, second_decides}}
+use Rattle.xbar_office.specs.declared.{reply.Card.Card, trial.{CallPaths.CallPaths, TrialEnd.{TrialEnd, TheVariants.{Chosen, Faulty, NoChannel}}}}
+use Rattle.xbar_office.{specs.declared.two_trials.{Choice.Choice, Trials.Trials}, proofs.{GoodTrials.at_group, TakenMembers.second-has}}
+use Rattle.xbar_jobs.specs.{Closing.path_closes, Office.office, Sides.{Side, Sides, join, join_called, open_path, reach, reached_after, side_after}}
+use Rattle.xbar_jobs.specs.Sides.{test_called, test_junctors, test_place, test_second, test_side, test_sides}
 use Rattle.xbar_jobs.specs.Trials.{after_first_trial, first_trial_steps, next_clear, second_trial_at, second_trial_steps, trial_end, two_trials_steps}
-use Rattle.xbar_jobs.specs.Trunks.{Trunks, trunks_of}
-use Rattle.xbar_jobs.specs.declared.party.CallParties.{CallParties}
-use Rattle.xbar_jobs.specs.declared.party.Party.{Party}
-use Rattle.xbar_jobs.specs.declared.trunk.Reached.{Reached}
-use Rattle.xbar_jobs.specs.declared.trunk.Trunk.{Trunk}
-use Rattle.xbar_jobs.proofs.HeldEffects.{IsHeldCall, IsHeldIfAny, IsHeldLine, IsHeldPath, IsHeldPlace, line_held, place_held}
-use Rattle.xbar_jobs.proofs.Items.{if_found}
+use Rattle.xbar_jobs.specs.{Trunks.{Trunks, trunks_of}, declared.{party.{CallParties.CallParties, Party.Party}, trunk.{Reached.Reached, Trunk.Trunk}}}
+use Rattle.xbar_jobs.proofs.{HeldEffects.{IsHeldCall, IsHeldIfAny, IsHeldLine, IsHeldPath, IsHeldPlace, line_held, place_held}, Items.if_found}
 use Rattle.xbar_jobs.proofs.HeldWords.{keeps_then, line_junctor_under, trunk_switch_under}
 
 -- the lines of the parties, of both sides of a call, and the places of a member that was reached are held
@@ -85,38 +56,54 @@ HoldsTrials held trials = IfSome trials.choice (λ choice. IsHeldChoice held cho
 
 -- with more held they are still held
 pub parties_held : (held more : List Conn) (parties : CallParties) → AreAmong held more → AreHeldParties held parties → AreHeldParties more parties
-parties_held held more parties among own = record { calling = line_held held more among parties.calling.line own.calling; called = IfSome_then parties.called own.called (λ party. line_held held more among party.line) }
+parties_held held more parties among own = record {
+  calling = line_held held more among parties.calling.line own.calling;
+  called = IfSome_then parties.called own.called (λ party. line_held held more among party.line);
+}
 
 sides_held : (held more : List Conn) (sides : Sides) → AreAmong held more → HoldsSides held sides → HoldsSides more sides
-sides_held held more sides among own = record { calling = line_held held more among sides.calling.party.line own.calling; called = IfSome_then sides.called own.called (λ side. line_held held more among side.party.line) }
+sides_held held more sides among own = record {
+  calling = line_held held more among sides.calling.party.line own.calling;
+  called = IfSome_then sides.called own.called (λ side. line_held held more among side.party.line);
+}
 
 trunk_held : (held more : List Conn) (trunk : Trunk) → AreAmong held more → HoldsTrunk held trunk → HoldsTrunk more trunk
-trunk_held held more trunk among own = record { first = place_held held more among trunk.first.place own.first; second = IfSome_then trunk.second own.second (λ reached. place_held held more among reached.place) }
+trunk_held held more trunk among own = record {
+  first = place_held held more among trunk.first.place own.first;
+  second = IfSome_then trunk.second own.second (λ reached. place_held held more among reached.place);
+}
 
 -- a path from a line to a place that are held is held, whatever its channel
-open_held : (held : List Conn) (side : Side) (start : ℕ) (reached : Reached) → HoldsSide held side → HoldsReached held reached → IsHeldIfAny held (open_path side start reached)
-open_held held side start reached line place = of (first_below (λ k. is_open_channel (match_words side.party.word side.junctors reached.word) reached.place.frame (channel_in_turn start k)) 10) where
-  of : (found : Option ℕ) → IsHeldIfAny held (option_map (path_by side.party.line reached.place) (option_map (channel_in_turn start) found))
-  of None = tt
-  of (Some k) = record { line = line; channel = omega arith; place = place }
+open_held : (held : List Conn) (side : Side) (start : ℕ) (reached : Reached) → HoldsSide held side → HoldsReached held reached
+    → IsHeldIfAny held (open_path side start reached)
+open_held held side start reached line place =
+    of (first_below (λ k. is_open_channel (match_words side.party.word side.junctors reached.word) reached.place.frame (channel_in_turn start k)) 10) where
+      of : (found : Option ℕ) → IsHeldIfAny held (option_map (path_by side.party.line reached.place) (option_map (channel_in_turn start) found))
+      of None = tt
+      of (Some k) = record { line = line; channel = omega arith; place = place }
 
 abbrev HoldsCall : List Conn → Option CallPaths → Type 0
 HoldsCall held found = IfSome found (λ call. IsHeldCall held call)
 
-called_joined : (held : List Conn) (start : ℕ) (called : Option Side) (second : Option Reached) (calling : Path) → HoldsCalled held called → HoldsSecond held second → IsHeldPath held calling → HoldsCall held (join_called called start second calling)
-called_joined held start (Some side) (Some reached) calling line place own = of (open_path (side_after (path_closes calling) side) start (reached_after (path_closes calling) reached)) (open_held held (side_after (path_closes calling) side) start (reached_after (path_closes calling) reached) line place) where
-  of : (found : Option Path) → IsHeldIfAny held found → HoldsCall held (option_map (λ called. record { calling = calling; called = Some called }) found)
-  of None none = tt
-  of (Some path) path_own = record { calling = own; called = path_own }
+called_joined : (held : List Conn) (start : ℕ) (called : Option Side) (second : Option Reached) (calling : Path) → HoldsCalled held called
+    → HoldsSecond held second → IsHeldPath held calling → HoldsCall held (join_called called start second calling)
+called_joined held start (Some side) (Some reached) calling line place own =
+    of (open_path (side_after (path_closes calling) side) start (reached_after (path_closes calling) reached))
+    (open_held held (side_after (path_closes calling) side) start (reached_after (path_closes calling) reached) line place) where
+      of : (found : Option Path) → IsHeldIfAny held found → HoldsCall held (option_map (λ called. record { calling = calling; called = Some called }) found)
+      of None none = tt
+      of (Some path) path_own = record { calling = own; called = path_own }
 called_joined held start (Some side) None calling line place own = record { calling = own; called = tt }
 called_joined held start None second calling line place own = record { calling = own; called = tt }
 
 -- what joins sides to a member that are held is held
-joined : (held : List Conn) (sides : Sides) (start : ℕ) (trunk : Trunk) → HoldsSides held sides → HoldsTrunk held trunk → HoldsCall held (join sides start trunk)
-joined held sides start trunk lines places = of (open_path sides.calling start trunk.first) (open_held held sides.calling start trunk.first lines.calling places.first) where
-  of : (found : Option Path) → IsHeldIfAny held found → HoldsCall held (option_and_then (join_called sides.called start trunk.second) found)
-  of None none = tt
-  of (Some path) own = called_joined held start sides.called trunk.second path lines.called places.second own
+joined : (held : List Conn) (sides : Sides) (start : ℕ) (trunk : Trunk) → HoldsSides held sides → HoldsTrunk held trunk
+    → HoldsCall held (join sides start trunk)
+joined held sides start trunk lines places =
+    of (open_path sides.calling start trunk.first) (open_held held sides.calling start trunk.first lines.calling places.first) where
+      of : (found : Option Path) → IsHeldIfAny held found → HoldsCall held (option_and_then (join_called sides.called start trunk.second) found)
+      of None none = tt
+      of (Some path) own = called_joined held start sides.called trunk.second path lines.called places.second own
 
 -- and so is what a trial on it chooses
 ended : (plan : Tables) (held : List Conn) (found : Option CallPaths) → HoldsCall held found → HoldsEnd held (end_of plan found)
@@ -126,10 +113,12 @@ ended plan held (Some call) own = of (find (is_faulty plan) (links call.calling 
   of None = own
   of (Some link) = tt
 
-good_trial : (plan : Tables) (held : List Conn) (sides : Sides) (start : ℕ) (trunk : Trunk) → HoldsSides held sides → HoldsTrunk held trunk → HoldsEnd held (trial_end plan sides start trunk)
+good_trial : (plan : Tables) (held : List Conn) (sides : Sides) (start : ℕ) (trunk : Trunk) → HoldsSides held sides → HoldsTrunk held trunk
+    → HoldsEnd held (trial_end plan sides start trunk)
 good_trial plan held sides start trunk lines places = ended plan held (join sides start trunk) (joined held sides start trunk lines places)
 
-decides_held : (held : List Conn) (cards : List Card) (index : ℕ) (end : TrialEnd) → index < 40 → HoldsEnd held end → HoldsTrials held (second_decides cards index end)
+decides_held : (held : List Conn) (cards : List Card) (index : ℕ) (end : TrialEnd) → index < 40 → HoldsEnd held end
+    → HoldsTrials held (second_decides cards index end)
 decides_held held cards index (Chosen call) below own = record { paths = own; index = below }
 decides_held held cards index (Faulty link) below own = tt
 decides_held held cards index NoChannel below own = tt
@@ -139,24 +128,29 @@ Anything held found = ⊤
 
 module _ (plan : Tables) where
   -- with their frame held, line junctor switches may be tested
-  junctors_keep : (held : List Conn) (frame channel count : ℕ) → IsIn (Llf frame) held → frame < 10 → channel + count ≤ 10 → KeepsTo (office plan) Anything held (test_junctors frame channel count)
+  junctors_keep : (held : List Conn) (frame channel count : ℕ) → IsIn (Llf frame) held → frame < 10 → channel + count ≤ 10
+      → KeepsTo (office plan) Anything held (test_junctors frame channel count)
   unfolding KeepsTo test_junctors ◌>>=◌
   junctors_keep held frame channel zero own below range = tt
   junctors_keep held frame channel (suc count) own below range = (
     line_junctor_under plan held frame channel own below (omega arith),
-    λ word fits. keeps_then plan Anything Anything held (test_junctors frame (channel + 1) count) (λ words. Ends (word ∷ words)) (junctors_keep held frame (channel + 1) count own below (omega arith)) (λ conns words among any. tt),
+    λ word fits. keeps_then plan Anything Anything held (test_junctors frame (channel + 1) count) (λ words. Ends (word ∷ words))
+        (junctors_keep held frame (channel + 1) count own below (omega arith)) (λ conns words among any. tt),
   )
 
   side_keeps : (held : List Conn) (party : Party) → IsHeldLine held party.line → KeepsTo (office plan) HoldsSide held (test_side party)
   unfolding KeepsTo test_side
   side_keeps held party own =
-      keeps_then plan Anything HoldsSide held (test_junctors party.line.frame 0 10) _ (junctors_keep held party.line.frame 0 10 own.own own.range.frame (omega arith))
+      keeps_then plan Anything HoldsSide held (test_junctors party.line.frame 0 10) _
+      (junctors_keep held party.line.frame 0 10 own.own own.range.frame (omega arith))
       (λ conns words among any. line_held held conns among party.line own)
 
-  called_keeps : (held : List Conn) (called : Option Party) → IfSome called (λ party. IsHeldLine held party.line) → KeepsTo (office plan) HoldsCalled held (test_called called)
+  called_keeps : (held : List Conn) (called : Option Party) → IfSome called (λ party. IsHeldLine held party.line)
+      → KeepsTo (office plan) HoldsCalled held (test_called called)
   unfolding KeepsTo test_called
   called_keeps held None own = tt
-  called_keeps held (Some party) own = keeps_then plan HoldsSide HoldsCalled held (test_side party) _ (side_keeps held party own) (λ conns side among line. line)
+  called_keeps held (Some party) own =
+      keeps_then plan HoldsSide HoldsCalled held (test_side party) _ (side_keeps held party own) (λ conns side among line. line)
 
   -- so may those of both parties' frames
   sides_keep : (held : List Conn) (parties : CallParties) → AreHeldParties held parties → KeepsTo (office plan) HoldsSides held (test_sides parties)
@@ -165,7 +159,8 @@ module _ (plan : Tables) where
       keeps_then plan HoldsSide HoldsSides held (test_side parties.calling) _ (side_keeps held parties.calling own.calling)
       (
       λ conns calling among line.
-      keeps_then plan HoldsCalled HoldsSides conns (test_called parties.called) _ (called_keeps conns parties.called (IfSome_then parties.called own.called (λ party. line_held held conns among party.line)))
+      keeps_then plan HoldsCalled HoldsSides conns (test_called parties.called) _
+      (called_keeps conns parties.called (IfSome_then parties.called own.called (λ party. line_held held conns among party.line)))
       (λ later called still lines. record { calling = line_held conns later still calling.party.line line; called = lines })
       )
 
@@ -173,10 +168,12 @@ module _ (plan : Tables) where
   unfolding KeepsTo test_place ◌>>=◌
   place_keeps held place own = (trunk_switch_under plan held place.frame place.switch own.own own.range.frame own.range.switch, λ word fits. own)
 
-  second_keeps : (held : List Conn) (second : Option TrunkPlace) → IfSome second (λ place. IsHeldPlace held place) → KeepsTo (office plan) HoldsSecond held (test_second second)
+  second_keeps : (held : List Conn) (second : Option TrunkPlace) → IfSome second (λ place. IsHeldPlace held place)
+      → KeepsTo (office plan) HoldsSecond held (test_second second)
   unfolding KeepsTo test_second
   second_keeps held None own = tt
-  second_keeps held (Some place) own = keeps_then plan HoldsReached HoldsSecond held (test_place place) _ (place_keeps held place own) (λ conns reached among there. there)
+  second_keeps held (Some place) own =
+      keeps_then plan HoldsReached HoldsSecond held (test_place place) _ (place_keeps held place own) (λ conns reached among there. there)
 
 -- a member's places are in range, on one frame
 record AreOnFrame (member : Member) : Type 0 where
@@ -192,14 +189,17 @@ module _ (plan : Tables) (held : List Conn) (member : Member) (on_frame : AreOnF
   has_reached = in_last (Tlf member.first.frame) held
 
   second_reached : IfSome member.second (λ place. IsHeldPlace reached place)
-  second_reached = IfSome_then member.second on_frame.second (λ place is. record { range = is.0; own = subst (λ (frame : ℕ). IsIn (Tlf frame) reached) (sym is.1) has_reached })
+  second_reached =
+      IfSome_then member.second on_frame.second (λ place is.
+      record { range = is.0; own = subst (λ (frame : ℕ). IsIn (Tlf frame) reached) (sym is.1) has_reached })
 
   -- a member's frame is seized, and its places are tested with it held
   reach_keeps : KeepsTo (office plan) HoldsTrunk held (reach member)
   unfolding KeepsTo reach ◌>>=◌ reached
   reach_keeps = (
     on_frame.first.frame,
-    keeps_then plan HoldsReached HoldsTrunk reached (test_place member.first) _ (place_keeps plan reached member.first (record { range = on_frame.first; own = has_reached }))
+    keeps_then plan HoldsReached HoldsTrunk reached (test_place member.first) _
+        (place_keeps plan reached member.first (record { range = on_frame.first; own = has_reached }))
         (
         λ conns first among there.
         keeps_then plan HoldsSecond HoldsTrunk conns (test_second member.second) _
@@ -233,10 +233,12 @@ module _ (plan : Tables) (laws : IsLawful plan) (number : ℕ) where
     trunks : Trunks
     trunks = trunks_of plan number word
 
-    second_trial_keeps : (held : List Conn) (cards : List Card) (index : ℕ) → HoldsSides held sides → KeepsTo (office plan) HoldsTrials held (second_trial_at plan sides trunks cards index)
+    second_trial_keeps : (held : List Conn) (cards : List Card) (index : ℕ) → HoldsSides held sides
+        → KeepsTo (office plan) HoldsTrials held (second_trial_at plan sides trunks cards index)
     unfolding KeepsTo second_trial_at second_trial_steps trunks
     second_trial_keeps held cards index lines = at (slice_get members index) refl where
-      at : (o : Option Member) → slice_get members index ≡ o → KeepsTo (office plan) HoldsTrials held (option_map_or (second_trial_steps plan sides cards index) o (Ends (second_decides cards index NoChannel)))
+      at : (o : Option Member) → slice_get members index ≡ o
+          → KeepsTo (office plan) HoldsTrials held (option_map_or (second_trial_steps plan sides cards index) o (Ends (second_decides cards index NoChannel)))
       at None here = tt
       at (Some member) here =
           keeps_then plan HoldsTrunk HoldsTrials held (reach member) _ (reach_keeps plan held member (each_on_frame index member here))
@@ -246,13 +248,15 @@ module _ (plan : Tables) (laws : IsLawful plan) (number : ℕ) where
           (good_trial plan conns sides 5 trunk (sides_held held conns sides among lines) places)
           )
 
-    after_trial_keeps : (held : List Conn) (first : ℕ) (end : TrialEnd) → first < 40 → HoldsSides held sides → HoldsEnd held end → KeepsTo (office plan) HoldsTrials held (after_first_trial plan sides trunks first end)
+    after_trial_keeps : (held : List Conn) (first : ℕ) (end : TrialEnd) → first < 40 → HoldsSides held sides → HoldsEnd held end
+        → KeepsTo (office plan) HoldsTrials held (after_first_trial plan sides trunks first end)
     unfolding KeepsTo after_first_trial
     after_trial_keeps held first (Chosen call) below lines own = record { paths = own; index = below }
     after_trial_keeps held first (Faulty link) below lines own = second_trial_keeps held (cards_of 1 (Faulty link)) (next_clear trunks first) lines
     after_trial_keeps held first NoChannel below lines own = second_trial_keeps held [] (next_clear trunks first) lines
 
-  first_trial_keeps : (held : List Conn) (parties : CallParties) (word first : ℕ) (member : Member) → slice_get members first ≡ Some member → AreHeldParties held parties → KeepsTo (office plan) HoldsTrials held (first_trial_steps plan parties (trunks_of plan number word) first member)
+  first_trial_keeps : (held : List Conn) (parties : CallParties) (word first : ℕ) (member : Member) → slice_get members first ≡ Some member
+      → AreHeldParties held parties → KeepsTo (office plan) HoldsTrials held (first_trial_steps plan parties (trunks_of plan number word) first member)
   unfolding first_trial_steps trunks
   first_trial_keeps held parties word first member here own =
       keeps_then plan HoldsTrunk HoldsTrials held (reach member) _ (reach_keeps plan held member (each_on_frame first member here))
@@ -267,9 +271,12 @@ module _ (plan : Tables) (laws : IsLawful plan) (number : ℕ) where
       )
 
   -- two trials on the group's members keep to what is held, with the parties' lines among it, and choose paths that are held then
-  pub two_trials_keep : (held : List Conn) (parties : CallParties) (word first : ℕ) → AreHeldParties held parties → KeepsTo (office plan) HoldsTrials held (two_trials_steps plan parties (trunks_of plan number word) first)
+  pub two_trials_keep : (held : List Conn) (parties : CallParties) (word first : ℕ) → AreHeldParties held parties
+      → KeepsTo (office plan) HoldsTrials held (two_trials_steps plan parties (trunks_of plan number word) first)
   unfolding KeepsTo two_trials_steps
   two_trials_keep held parties word first own = at (slice_get members first) refl where
-    at : (o : Option Member) → slice_get members first ≡ o → KeepsTo (office plan) HoldsTrials held (option_map_or (first_trial_steps plan parties (trunks_of plan number word) first) o (Ends (second_decides [] first NoChannel)))
+    at : (o : Option Member) → slice_get members first ≡ o
+        → KeepsTo (office plan) HoldsTrials held (option_map_or (first_trial_steps plan parties (trunks_of plan number word) first) o
+        (Ends (second_decides [] first NoChannel)))
     at None here = tt
     at (Some member) here = first_trial_keeps held parties word first member here own

@@ -124,11 +124,10 @@ reply_of decision = decision.reply
 abbrev pub attempt_at : Doing → Attempt
 attempt_at p = standing.attempt_of reply_of effects_of p
 
--- what every program keeps, whatever the plan: its attempt is one of the office, the step is the
--- attempt's next one, and its resume point is valid
-pub record IsProgram (p : Doing) (next : Step) : Type 0 where
+-- what every program keeps, whatever the plan: its attempt is one of the office, and its resume
+-- point is valid
+pub record IsProgram (p : Doing) : Type 0 where
   pub attempt : IsAttempt (attempt_at p)
-  pub next_is : IsNextStep (attempt_at p) next
   pub valid_point : standing.ResumePointIsValidIn
       (λ job point seen. ResumePointIsValid (job_line job) point seen) (attempt_at p)
       p.point p.phase

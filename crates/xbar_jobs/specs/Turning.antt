@@ -6,7 +6,6 @@ use Rattle.xbar_equip.specs.Word.{word_count}
 use Rattle.xbar_equip.specs.declared.path.Path.{Path}
 use Rattle.xbar_plan.specs.Tables.{Tables}
 use Rattle.xbar_office.specs.Whole.{whole}
-use Rattle.turns.specs.Attempt as acts
 use Rattle.turns.specs.declared.act.Act.TheVariants as act_is
 use Rattle.xbar_jobs.specs.Attempt.{Act, Attempt}
 use Rattle.xbar_jobs.specs.Keeping.{IsEffect}

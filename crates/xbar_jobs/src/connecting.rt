@@ -8,8 +8,8 @@ ghost use Rattle.xbar_jobs.specs.Script.{walk_on_words};
 
 use crate::decision::Decision;
 use crate::effect::Effect;
-use crate::kinds::{Seen, Wanted};
 use crate::party::CallParties;
+use crate::sizes::{Seen, Wanted};
 use crate::trials::two_trials;
 use crate::trunks::{find_trunk, trunks_of};
 use xbar_office::{Aim, End};

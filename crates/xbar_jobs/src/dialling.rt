@@ -7,8 +7,8 @@ ghost use Rattle.xbar_jobs.specs.Tracing.{ResumePointIsValid};
 
 use crate::connecting::connect;
 use crate::decision::Decision;
-use crate::kinds::{Seen, Wanted};
 use crate::party::CallParties;
+use crate::sizes::{Seen, Wanted};
 use crate::walk_progress::WalkProgress;
 use xbar_equip::Len;
 use xbar_office::{Aim, End};

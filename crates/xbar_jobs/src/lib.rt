@@ -1,15 +1,15 @@
-//! A job as single steps of a marker on the office's shared words. The caller of a `Program` makes
-//! each step that it asks for, and passes it the answer.
+//! A job as single steps of a marker on the office's words. A `Program` makes them on plain words
+//! (`step`, `run`); or its caller makes each step that it shows, and passes it the answer (`take`).
 #![tactic(auto)]
 
 pub use effect::Effect;
 pub use office_effect::OfficeEffect;
-pub use offices::Offices;
+pub use offices::{OfficeAttempt, Offices};
 pub use program::Program;
+pub use sizes::{HELD, READINGS};
 pub use step::Step;
 pub use turns::{Answer, Judgement, Operation};
 
-mod closing;
 mod completing;
 mod connecting;
 mod decided;
@@ -17,7 +17,6 @@ mod decision;
 mod dialling;
 mod effect;
 mod effects;
-mod kinds;
 pub mod laws;
 mod leave;
 mod office_effect;
@@ -27,6 +26,7 @@ mod program;
 mod releasing;
 mod seen;
 mod sides;
+mod sizes;
 mod step;
 mod take;
 mod tracing;

@@ -1,17 +1,20 @@
 use crate::decided::Decided;
-use crate::kinds::{Seen, Wanted};
 use crate::office_effect::OfficeEffect;
+use crate::sizes::{HELD, READINGS, Seen, Wanted};
 use crate::walk::{first_conn, next_in_row, walk};
 use crate::walk_progress::WalkProgress;
-use attempts::Scripts;
-use turns::LockSharing;
+use attempts::{AttemptOf, OnWords, Scripts};
 use turns::laws::Family;
-use xbar_equip::Conn;
+use turns::{Clock, LockSharing, Operation};
+use xbar_equip::{Conn, WORD_COUNT, conn_number, turn_word};
 use xbar_office::{Job, Reply};
 use xbar_plan::Plan;
 
 /// The family of offices as systems of jobs over shared words: one for each plan.
 pub struct Offices;
+
+/// An attempt at a job of the office, at run time.
+pub type OfficeAttempt = AttemptOf<Offices, READINGS, HELD>;
 
 impl Family for Offices {
     ghost use Rattle.xbar_plan.specs.Tables.{Tables};
@@ -22,7 +25,7 @@ impl Family for Offices {
     ghost system = { office };
 }
 
-impl Scripts<42, 19> for Offices {
+impl Scripts<READINGS, HELD> for Offices {
     ghost use Rattle.attempts.specs.SystemWith.{without_decisions};
     ghost use Rattle.turns.specs.declared.lock_sharing.LockSharing.TheVariants.{Preferring};
     ghost use Rattle.xbar_plan.specs.Lawful.{IsLawful};
@@ -93,5 +96,31 @@ impl Scripts<42, 19> for Offices {
 
     fn effect(decision: &Decided, place: usize) -> Option<OfficeEffect> {
         decision.effect(place)
+    }
+}
+
+impl OnWords<READINGS, HELD> for Offices {
+    fn size(_plan: &Plan) -> usize {
+        WORD_COUNT
+    }
+
+    fn lock_word(_plan: &Plan, conn: Conn) -> usize {
+        usize::from(conn_number(conn))
+    }
+
+    fn turn_word(_plan: &Plan) -> usize {
+        usize::from(turn_word().number())
+    }
+
+    fn clock(_plan: &Plan) -> Clock {
+        Clock::Counted
+    }
+
+    fn effect_word(_plan: &Plan, effect: OfficeEffect) -> usize {
+        usize::from(effect.word().number())
+    }
+
+    fn effect_operation(_plan: &Plan, effect: OfficeEffect) -> Operation {
+        effect.operation()
     }
 }

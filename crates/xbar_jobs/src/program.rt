@@ -1,4 +1,4 @@
-ghost use Rattle.std.specs.Prelude.{◌≡◌, ◌<◌, ◌≤◌, ◌⊎◌, is_some, length, option_copied, true};
+ghost use Rattle.std.specs.Prelude.{◌≡◌, ◌<◌, ◌≤◌, ◌⊎◌, false, is_some, length, option_copied, true};
 ghost use Rattle.attempts.specs.Validity.{AreScripts, ResumePointIsValidIn, IsValid as IsValidAttempt};
 ghost use Rattle.attempts.specs.SystemWith.{without_decisions};
 ghost use Rattle.turns.specs.declared.lock_sharing.LockSharing.TheVariants.{Preferring};
@@ -13,12 +13,12 @@ ghost use Rattle.xbar_jobs.specs.Standing.{IsAttempt, IsNextStep, IsValid, attem
 ghost use Rattle.xbar_jobs.specs.Tracing.{ResumePointIsValid};
 ghost use Rattle.xbar_jobs.specs.Turning.{IsAct, IsStep};
 
-use crate::closing::close;
 use crate::effect::Effect;
 use crate::office_effect::OfficeEffect;
-use crate::offices::Offices;
+use crate::offices::{OfficeAttempt, Offices};
+use crate::sizes::{HELD, READINGS};
 use crate::step::Step;
-use attempts::{AttemptOf, apply, begin, next, restart, run};
+use attempts::{apply, begin, is_done, next, restart, run, step};
 use std::marker::Model;
 use turns::{Answer, Phase};
 use xbar_equip::{Conn, WordNo};
@@ -30,9 +30,7 @@ use xbar_plan::Plan;
 /// the same plan to every call.
 #[derive(Debug, Drop)]
 pub struct Program {
-    attempt: AttemptOf<Offices, 42, 19>,
-    /// The attempt's next step, kept since callers ask for it several times before they make it.
-    next: Step,
+    attempt: OfficeAttempt,
 }
 
 impl Model for Program {
@@ -43,11 +41,11 @@ impl Model for Program {
 
     ghost view = { λ a. record { attempt = attempt_at a.attempt; count = a.attempt.count } };
 
-    ghost invariant = { λ a. IsProgram a.attempt a.next };
+    ghost invariant = { λ a. IsProgram a.attempt };
 }
 
 /// Does nothing. Called for its contract, that the effects that are left are the office's.
-fn effects_are(attempt: &AttemptOf<Offices, 42, 19>)
+fn effects_are(attempt: &OfficeAttempt)
     ensures { AreEffects (attempt_at attempt.now).effects }
 {
     match attempt.decision() {
@@ -57,7 +55,7 @@ fn effects_are(attempt: &AttemptOf<Offices, 42, 19>)
 }
 
 /// Does nothing. Called for its contract, that the attempt may go on by its job's script.
-fn may_go_on(attempt: &AttemptOf<Offices, 42, 19>, plan: &Plan)
+fn may_go_on(attempt: &OfficeAttempt, plan: &Plan)
     requires valid { IsValid plan.now (attempt_at attempt.now) }
     requires valid_point { ResumePointIsValidIn
         (λ job point seen. ResumePointIsValid (job_line job) point seen)
@@ -99,11 +97,11 @@ fn step_by(next: turns::Act<Conn, OfficeEffect>) -> Step
 /// The attempt's next step.
 #[tactic(auto, using(crate::proofs::Programs::made_range))]
 #[inline(always)]
-fn step_of(attempt: &AttemptOf<Offices, 42, 19>) -> Step
+fn step_of(attempt: &OfficeAttempt) -> Step
     requires { IsAttempt (attempt_at attempt.now) }
     ensures { IsNextStep (attempt_at attempt.now) result }
 {
-    step_by(next::<Offices, 42, 19>(attempt))
+    step_by(next::<Offices, READINGS, HELD>(attempt))
 }
 
 impl Program {
@@ -118,7 +116,7 @@ impl Program {
     ghost use Rattle.xbar_jobs.specs.Attempt.{fresh, with_count};
     ghost use Rattle.xbar_jobs.specs.Counting.{after_answer};
     ghost use Rattle.xbar_jobs.specs.Office.{office};
-    ghost use Rattle.xbar_jobs.specs.OnWords.{step_word};
+    ghost use Rattle.xbar_jobs.specs.OnWords.{answer_of, step_word, words_after};
     ghost use Rattle.xbar_jobs.specs.Running.{GoesFar, RunsOn};
     ghost use Rattle.xbar_jobs.specs.Turning.{DoesAsOffice};
 
@@ -129,9 +127,9 @@ impl Program {
     {
         // Called only for its contract.
         job_is_in_range(&job);
-        let attempt = begin::<Offices, 42, 19>(job);
-        let next = step_of(&attempt);
-        Program { attempt, next }
+        Program {
+            attempt: begin::<Offices, READINGS, HELD>(job),
+        }
     }
 
     /// The attempt's next step.
@@ -140,9 +138,17 @@ impl Program {
         ensures range { IsStep result }
         ensures word { step_word result < word_count }
     {
+        let next = step_of(&self.attempt);
         // Called only for its contract.
-        let _word = self.next.word();
-        self.next
+        let _word = next.word();
+        next
+    }
+
+    /// Whether the job is done, and nothing is held: there is no next step.
+    pub fn is_done(&self) -> bool
+        ensures { result ≡ is_finished (act self.now.attempt) }
+    {
+        is_done::<Offices, READINGS, HELD>(&self.attempt)
     }
 
     pub fn job(&self) -> &Job
@@ -222,9 +228,28 @@ impl Program {
             → DoesAsOffice plan.now self.new.attempt }
     {
         may_go_on(&self.attempt, plan);
-        apply::<Offices, 42, 19>(&mut self.attempt, plan, answer);
+        apply::<Offices, READINGS, HELD>(&mut self.attempt, plan, answer);
         effects_are(&self.attempt);
-        self.next = step_of(&self.attempt);
+    }
+
+    /// Makes the attempt's next step on the words, as this marker, and returns what it was answered.
+    /// All calls must be given the same plan.
+    pub fn step(&mut self, plan: &Plan, marker: u32, words: &mut [u64]) -> Answer
+        requires goes_on { is_finished (act self.old.attempt) ≡ false }
+        requires marker { marker < 48 }
+        requires plan { IsValid plan.now self.old.attempt }
+        requires words { length words.old ≡ word_count }
+        ensures answer { result ≡ answer_of marker (next_step self.old.attempt) words.old }
+        ensures change { self.new ≡ after_answer plan.now self.old result }
+        ensures words { words.new ≡ words_after marker (next_step self.old.attempt) words.old }
+        ensures plan { IsValid plan.now self.new.attempt }
+        ensures turn { (number : ℕ) → result ≡ Answer.Turn number
+            → DoesAsOffice plan.now self.new.attempt }
+    {
+        may_go_on(&self.attempt, plan);
+        let answer = step::<Offices, READINGS, HELD>(&mut self.attempt, plan, marker, words);
+        effects_are(&self.attempt);
+        answer
     }
 
     /// Goes on through its script by at most `most` steps, and returns their number.
@@ -236,9 +261,8 @@ impl Program {
             self.old.attempt.phase self.new.attempt.phase }
     {
         may_go_on(&self.attempt, plan);
-        let made = run::<Offices, 42, 19>(&mut self.attempt, plan, marker, words, most);
+        let made = run::<Offices, READINGS, HELD>(&mut self.attempt, plan, marker, words, most);
         effects_are(&self.attempt);
-        self.next = step_of(&self.attempt);
         made
     }
 
@@ -251,8 +275,13 @@ impl Program {
         ensures runs { RunsOn plan.now marker most result self.old words.old self.new words.new }
         ensures far { (result ≡ most) ⊎ (is_finished (act self.new.attempt) ≡ true) }
     {
-        let made = close(&mut self.attempt, plan, marker, words, most);
-        self.next = step_of(&self.attempt);
+        // Called only for its contract: it has 32 bits.
+        let _count = self.count();
+        let mut made = 0;
+        while made < most && !self.is_done() {
+            self.step(plan, marker, words);
+            made += 1;
+        }
         made
     }
 
@@ -289,7 +318,6 @@ impl Program {
         ensures plan { (plan : Tables) → IsLawful plan → IsValid plan self.old.attempt
             → IsValid plan self.new.attempt }
     {
-        restart::<Offices, 42, 19>(&mut self.attempt);
-        self.next = step_of(&self.attempt);
+        restart::<Offices, READINGS, HELD>(&mut self.attempt);
     }
 }

@@ -6,9 +6,9 @@ ghost use Rattle.xbar_jobs.specs.Script.{walk_on_words};
 ghost use Rattle.xbar_jobs.specs.Tracing.{ResumePointIsValid};
 
 use crate::decision::Decision;
-use crate::kinds::{Seen, Wanted};
 use crate::leave::Leave;
 use crate::seen::require_held;
+use crate::sizes::{Seen, Wanted};
 use crate::tracing::trace_back;
 use crate::walk_progress::WalkProgress;
 use xbar_equip::{Conn, Len, Path, Ten};

@@ -10,7 +10,7 @@ ghost use Rattle.xbar_jobs.specs.declared.effect.Effect.{Effect};
 
 use crate::effect::Effect;
 use crate::effects::made as made_by;
-use crate::kinds::{Seen, Wanted};
+use crate::sizes::{Seen, Wanted};
 use xbar_equip::{Conn, WordNo, conn_word};
 
 /// Makes sure that the connector is held. If it isn't, and can't be seized at once, the walk ends.

@@ -8,9 +8,9 @@ ghost use Rattle.xbar_jobs.specs.Sides.{IsNextJunctor, join as join_of, join_cal
 
 use crate::effect::Effect;
 use crate::effects::{Effects, close_path, made as made_by};
-use crate::kinds::{Seen, Wanted};
 use crate::party::{CallParties, Party};
 use crate::seen::value_of;
+use crate::sizes::{Seen, Wanted};
 use crate::trunk::{Reached, Trunk};
 use std::marker::Model;
 use xbar_equip::{Path, line_junctor};

@@ -6,9 +6,9 @@ ghost use Rattle.xbar_jobs.specs.Script.{walk_on_words};
 ghost use Rattle.xbar_jobs.specs.Trials.{after_first_trial as after_first_script, first_trial_steps, second_trial_at as second_trial_at_script, second_trial_steps, trial_end as trial_end_of, two_trials_steps};
 
 use crate::effect::Effect;
-use crate::kinds::{Seen, Wanted};
 use crate::party::CallParties;
 use crate::sides::Sides;
+use crate::sizes::{Seen, Wanted};
 use crate::trunk::{Reached, Trunk, reach};
 use crate::trunks::{Trunks, next_clear};
 use xbar_office::{Card, Cards, TrialEnd, Trials};

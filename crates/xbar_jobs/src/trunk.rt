@@ -5,8 +5,8 @@ ghost use Rattle.xbar_jobs.specs.Sides.{reach as reach_script, test_place as tes
 
 use crate::effect::Effect;
 use crate::effects::made as made_by;
-use crate::kinds::{Seen, Wanted};
 use crate::seen::{require_held, value_of};
+use crate::sizes::{Seen, Wanted};
 use xbar_equip::{Conn, Ten, trunk_switch};
 use xbar_plan::Member;
 

@@ -8,8 +8,8 @@ ghost use Rattle.xbar_jobs.specs.Script.{walk_on_words};
 ghost use Rattle.xbar_jobs.specs.Trunks.{IsOfPlan, find_trunk as find_trunk_script, is_bit_clear as is_bit_clear_of, trunks_of as trunks_by};
 
 use crate::effect::Effect;
-use crate::kinds::{Seen, Wanted};
 use crate::seen::{require_held, value_of};
+use crate::sizes::{Seen, Wanted};
 use std::marker::Model;
 use xbar_equip::{Conn, group_word};
 use xbar_plan::{Member, Plan};

@@ -4,8 +4,8 @@ ghost use Rattle.std.specs.Prelude.{◌≡◌, Ok, []};
 ghost use Rattle.xbar_jobs.specs.Script.{walk_on_words, walk};
 ghost use Rattle.xbar_jobs.specs.Tracing.{ResumePointIsValid, approach as approach_script, trace as trace_script};
 
-use crate::kinds::{Seen, Wanted};
 use crate::party::Party;
+use crate::sizes::{Seen, Wanted};
 use crate::tracing::{approach, trace};
 use xbar_equip::{Len, Path};
 

@@ -1,10 +1,7 @@
 -- the connectors by their places among all
-use Rattle.std.proofs.Common.{◌≡◌, ℕ, zero, suc, ◌+◌, ◌-◌, ◌<◌, ◌≤◌, List, [], ◌∷◌, ◌++◌, length, map, refl, ◌∙◌, ap, arith}
-use Rattle.std.specs.Prelude.{Some, slice_get}
-use Rattle.std.specs.List.{range_with_len}
-use Rattle.xbar_equip.specs.declared.conn.Conn.{Conn}
+use Rattle.std.proofs.Common.{◌≡◌, ℕ, zero, suc, ◌+◌, ◌-◌, ◌<◌, ◌≤◌, List, [], ◌∷◌, ◌++◌, length, map, ◌∙◌, ap, arith, Some, slice_get}
+use Rattle.{std.specs.List.range_with_len, xbar_equip.specs.declared.conn.Conn.Conn, xbar_look.specs.Connectors.all_conns}
 use Rattle.xbar_equip.specs.declared.conn.Conn.TheVariants as conn
-use Rattle.xbar_look.specs.Connectors.{all_conns}
 
 front : {A : Type 0} (items others : List A) (i : ℕ) (item : A) → slice_get items i ≡ Some item → slice_get (items ++ others) i ≡ Some item
 front [] others i item found = absurd cc

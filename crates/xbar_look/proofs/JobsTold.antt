@@ -1,30 +1,13 @@
 -- what is told of a marker's job
-use Rattle.std.proofs.Common.{◌≡◌, ℕ, zero, suc, ◌+◌, ◌<◌, ◌%◌, Bool, true, false, List, [], ◌∷◌, inl, inr, refl, sym, ◌∙◌, ap, subst, eq-eqb, arith}
-use Rattle.std.proofs.lemmas.Bool.{eqb-true}
-use Rattle.std.specs.Int.{bit_at}
-use Rattle.std.specs.Prelude.{◌↔◌, Option, None, Some, if◌then◌else◌, option_map, slice_get}
-use Rattle.turns.specs.Among.{IsIn}
-use Rattle.turns.specs.Attempt.{act, act_in, closing_act, free_act, request_in}
-use Rattle.turns.specs.Runs.{is_finished}
-use Rattle.turns.specs.Sharing.{actor_of_holder, held_by}
-use Rattle.turns.specs.Sharings.{preferring}
-use Rattle.turns.specs.World.{Idle, Does}
-use Rattle.turns.specs.declared.phase.Phase.TheVariants.{Requests, Seizes, Tests, Turns, Withdraws, GivesBack, Operates}
-use Rattle.xbar_equip.specs.Conn.{IsConn}
-use Rattle.xbar_equip.specs.declared.conn.Conn.{Conn}
-use Rattle.xbar_plan.specs.Tables.{Tables}
-use Rattle.xbar_jobs.specs.Attempt.{Attempt, Phase, next_step}
-use Rattle.xbar_jobs.specs.OnWords.{answer_of}
-use Rattle.xbar_jobs.specs.declared.effect.Effect.{Effect}
-use Rattle.xbar_moves.specs.AtWork.{next_step_at}
-use Rattle.xbar_moves.specs.Exchange.{Exchange, IsLawfulExchange, Marker, Work as TheWork, is_idle, on_job}
-use Rattle.xbar_moves.specs.Holding.{HasRequested, Holds, IsAt}
-use Rattle.xbar_moves.specs.Moves.{after_answer, after_step}
-use Rattle.xbar_moves.proofs.Connectors.{conn_word, tells_truth}
-use Rattle.xbar_moves.proofs.StepCases.{step_made}
-use Rattle.xbar_core.specs.Standing.{work_of}
-use Rattle.xbar_core.specs.declared.work.Work.{Work}
-use Rattle.xbar_look.specs.Jobs.{UnderWay, held_for, job_at, requested_for, under_way}
+use Rattle.std.proofs.Common.{◌≡◌, ℕ, zero, suc, ◌+◌, ◌<◌, ◌%◌, Bool, true, false, List, [], ◌∷◌, refl, sym, ◌∙◌, ap, subst, eq-eqb, arith, eqb-true, ◌↔◌}
+use Rattle.std.proofs.Common.{Option, None, Some, if◌then◌else◌, slice_get}
+use Rattle.{std.specs.Int.bit_at, turns.specs.{Among.IsIn, Attempt.{act, act_in, closing_act, free_act, request_in}, Runs.is_finished}}
+use Rattle.turns.specs.{Sharing.{actor_of_holder, held_by}, Sharings.preferring, World.{Idle, Does}, declared.phase.Phase.TheVariants.{Requests, Seizes, Tests}}
+use Rattle.{turns.specs.declared.phase.Phase.TheVariants.{Turns, Withdraws, GivesBack, Operates}, xbar_equip.specs.{Conn.IsConn, declared.conn.Conn.Conn}}
+use Rattle.{xbar_plan.specs.Tables.Tables, xbar_jobs.specs.{Attempt.{Attempt, Phase, next_step}, OnWords.answer_of, declared.effect.Effect.Effect}}
+use Rattle.xbar_moves.specs.{AtWork.next_step_at, Exchange.{Exchange, IsLawfulExchange, Marker, Work as TheWork, is_idle, on_job}}
+use Rattle.xbar_moves.specs.{Holding.{HasRequested, Holds, IsAt}, Moves.{after_answer, after_step}}
+use Rattle.{xbar_moves.proofs.{Connectors.{conn_word, tells_truth}, StepCases.step_made}, xbar_look.specs.Jobs.{UnderWay, held_for, requested_for, under_way}}
 
 -- the job of this work, unless it is idle
 abbrev job_by : TheWork → Option UnderWay
@@ -112,7 +95,8 @@ module _ (e : Exchange) (k : ℕ) (m : Marker) (conn : Conn) (there : slice_get 
   told_holds within = by (under_way m) refl within where
     by : (told : Option UnderWay) → under_way m ≡ told → IsIn conn (held_for told) → Holds e k conn
     by None told within = absurd within
-    by (Some u) told within = record { number = u.number; attempt = u.attempt; at = record { marker = m; there = there; work = (told_of m.work u told).is }; held = within }
+    by (Some u) told within =
+        record { number = u.number; attempt = u.attempt; at = record { marker = m; there = there; work = (told_of m.work u told).is }; held = within }
 
   holds_told : Holds e k conn → IsIn conn (held_for (under_way m))
   holds_told holds =
@@ -123,7 +107,8 @@ module _ (e : Exchange) (k : ℕ) (m : Marker) (conn : Conn) (there : slice_get 
   told_requests asks = by (under_way m) refl asks where
     by : (told : Option UnderWay) → under_way m ≡ told → requested_for told ≡ Some conn → HasRequested e k conn
     by None told asks = absurd cc
-    by (Some u) told asks = record { number = u.number; attempt = u.attempt; at = record { marker = m; there = there; work = (told_of m.work u told).is }; request = asks }
+    by (Some u) told asks =
+        record { number = u.number; attempt = u.attempt; at = record { marker = m; there = there; work = (told_of m.work u told).is }; request = asks }
 
   requests_told : HasRequested e k conn → requested_for (under_way m) ≡ Some conn
   requests_told asks =
@@ -137,7 +122,8 @@ named : (holder k : ℕ) → actor_of_holder holder ≡ Some k → holder ≡ k 
 named zero k told = absurd cc
 named (suc j) k told = let same : j ≡ k = cc in omega (arith, same)
 
-module _ (plan : Tables) (e : Exchange) (lawful : IsLawfulExchange plan e) (k : ℕ) (m : Marker) (conn : Conn) (range : IsConn conn) (there : slice_get e.markers k ≡ Some m) where
+module _ (plan : Tables) (e : Exchange) (lawful : IsLawfulExchange plan e) (k : ℕ) (m : Marker) (conn : Conn) (range : IsConn conn)
+    (there : slice_get e.markers k ≡ Some m) where
   pub held_names : IsIn conn (held_for (under_way m)) ↔ (held_by preferring (conn_word e conn) ≡ Some k)
   held_names =
       let truth = tells_truth plan e lawful conn range in (

@@ -1,17 +1,18 @@
 -- markers told one by one
-use Rattle.std.proofs.Common.{◌≡◌, ℕ, ◌+◌, ◌<◌, List, [], ◌∷◌, ◌++◌, get_or, length, take, append_assoc, append-nil, sym, ◌∙◌, ap, arith}
-use Rattle.std.proofs.lemmas.List.{length-take-le, take_more}
-use Rattle.xbar_moves.specs.Exchange.{Marker}
-use Rattle.xbar_look.specs.Lines.{marker_lines, markers_lines}
-use Rattle.xbar_look.specs.Markers.{marker_object, marker_objects}
+use Rattle.std.proofs.Common.{◌≡◌, ℕ, ◌+◌, ◌<◌, List, [], ◌∷◌, ◌++◌, get_or, length, take, append_assoc, append-nil, sym, ◌∙◌, ap, arith, length-take-le}
+use Rattle.{std.proofs.lemmas.List.take_more, xbar_moves.specs.Exchange.Marker}
+use Rattle.xbar_look.specs.{Lines.{marker_lines, markers_lines}, Markers.{marker_object, marker_objects}}
 
 module _ (words : List ℕ) where
-  objects_behind : (k n : ℕ) (markers : List Marker) (m : Marker) → n ≡ k + length markers → marker_objects words k (markers ++ m ∷ []) ≡ marker_objects words k markers ++ marker_object words n m ∷ []
+  objects_behind : (k n : ℕ) (markers : List Marker) (m : Marker) → n ≡ k + length markers
+      → marker_objects words k (markers ++ m ∷ []) ≡ marker_objects words k markers ++ marker_object words n m ∷ []
   unfolding marker_objects
   objects_behind k n [] m is = let same : k ≡ n = omega (arith, is) in ap (λ (number : ℕ). marker_object words number m ∷ []) same
-  objects_behind k n (first ∷ markers) m is = ap (λ (rest : List (List ℕ)). marker_object words k first ∷ rest) (objects_behind (1 + k) n markers m (omega (arith, is)))
+  objects_behind k n (first ∷ markers) m is =
+      ap (λ (rest : List (List ℕ)). marker_object words k first ∷ rest) (objects_behind (1 + k) n markers m (omega (arith, is)))
 
-  lines_behind : (k n : ℕ) (markers : List Marker) (m : Marker) → n ≡ k + length markers → markers_lines words k (markers ++ m ∷ []) ≡ markers_lines words k markers ++ marker_lines words n m
+  lines_behind : (k n : ℕ) (markers : List Marker) (m : Marker) → n ≡ k + length markers
+      → markers_lines words k (markers ++ m ∷ []) ≡ markers_lines words k markers ++ marker_lines words n m
   unfolding markers_lines
   lines_behind k n [] m is = let same : k ≡ n = omega (arith, is) in append-nil (marker_lines words k m) ∙ ap (λ (number : ℕ). marker_lines words number m) same
   lines_behind k n (first ∷ markers) m is =

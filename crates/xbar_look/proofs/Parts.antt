@@ -1,7 +1,6 @@
 -- a text that is made part by part
 use Rattle.std.proofs.Common.{◌≡◌, ℕ, List, [], ◌∷◌, ◌++◌, append-nil, sym, ◌∙◌, ap}
-use Rattle.std.specs.List.{concat}
-use Rattle.std.proofs.lemmas.List.Folds.{concat-append}
+use Rattle.std.{specs.List.concat, proofs.lemmas.List.Folds.concat-append}
 
 pub record IsMadeOf (parts : List (List ℕ)) (text : List ℕ) : Type 0 where
   pub is : text ≡ concat parts

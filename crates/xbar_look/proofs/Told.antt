@@ -1,13 +1,8 @@
 -- values told one by one, with commas between them
-use Rattle.std.proofs.Common.{◌≡◌, ℕ, zero, suc, ◌+◌, Bool, true, false, List, [], ◌∷◌, ◌++◌, ◌≤◌, append_assoc, append-nil, length, map, take, refl, sym, ◌∙◌, ap, subst, arith}
-use Rattle.std.specs.Prelude.{◌||◌, Some, codes, filter, slice_get, if◌then◌else◌}
-use Rattle.std.specs.List.{range_with_len}
-use Rattle.std.proofs.lemmas.Grind.{common_steps}
-use Rattle.std.proofs.lemmas.List.{map-append, take_all, take_more}
-use Rattle.std.proofs.lemmas.Option.{get_or_from_slice_get, slice_get_within}
-use Rattle.std.proofs.lemmas.List.Elements.{filter-append}
-use Rattle.xbar_equip.proofs.Logic.{or_true, or_false}
-use Rattle.xbar_json.specs.Json.{listed}
+use Rattle.std.proofs.Common.{◌≡◌, ℕ, zero, suc, ◌+◌, Bool, true, false, List, [], ◌∷◌, ◌++◌, ◌≤◌, append_assoc, append-nil, length, map, take, refl, sym, ◌∙◌}
+use Rattle.std.proofs.Common.{ap, subst, arith, ◌||◌, Some, codes, filter, slice_get, if◌then◌else◌, take_all}
+use Rattle.std.{specs.List.range_with_len, proofs.lemmas.{Grind.common_steps, List.{map-append, take_more, Elements.filter-append}}}
+use Rattle.{std.proofs.lemmas.Option.{get_or_from_slice_get, slice_get_within}, xbar_equip.proofs.Logic.{or_true, or_false}, xbar_json.specs.Json.listed}
 
 -- whether there are any values
 abbrev pub has_any : List (List ℕ) → Bool
@@ -37,7 +32,8 @@ any_more [] value = refl
 any_more (first ∷ values) value = refl
 
 module _ (values : List (List ℕ)) (first now : List ℕ) (any : Bool) (so_far : AreTold values first now any) (value next : List ℕ) (some : Bool) where
-  pub one_told : (passes : Bool) → some ≡ (any || passes) → next ≡ now ++ (if passes then (if any then codes "," else []) ++ value else []) → AreTold (values ++ one_if passes value) first next some
+  pub one_told : (passes : Bool) → some ≡ (any || passes) → next ≡ now ++ (if passes then (if any then codes "," else []) ++ value else [])
+      → AreTold (values ++ one_if passes value) first next some
   one_told true is adds = record {
     any_is = is ∙ or_true any ∙ sym (any_more values value);
     text_is =
@@ -54,7 +50,8 @@ module _ (values : List (List ℕ)) (first now : List ℕ) (any : Bool) (so_far 
   }
 
 -- the values of the items that pass a test, with one item more
-pub picked_more : {A : Type 0} (passes : A → Bool) (of : A → List ℕ) (items : List A) (item : A) → map of (filter passes (items ++ item ∷ [])) ≡ map of (filter passes items) ++ one_if (passes item) (of item)
+pub picked_more : {A : Type 0} (passes : A → Bool) (of : A → List ℕ) (items : List A) (item : A)
+    → map of (filter passes (items ++ item ∷ [])) ≡ map of (filter passes items) ++ one_if (passes item) (of item)
 picked_more passes of items item =
     ap (map of) (filter-append passes items (item ∷ []))
     ∙ map-append of (filter passes items) (filter passes (item ∷ []))
@@ -69,10 +66,12 @@ module _ {A : Type 0} (passes : A → Bool) (of : A → List ℕ) (items : List 
   told_to n = map of (filter passes (take n items))
 
   module _ (n : ℕ) (first now : List ℕ) (any : Bool) (so_far : AreTold (told_to n) first now any) where
-    pub next_item : (item : A) (next : List ℕ) (some : Bool) → slice_get items n ≡ Some item → some ≡ (any || passes item) → next ≡ now ++ (if passes item then (if any then codes "," else []) ++ of item else []) → AreTold (told_to (n + 1)) first next some
+    pub next_item : (item : A) (next : List ℕ) (some : Bool) → slice_get items n ≡ Some item → some ≡ (any || passes item)
+        → next ≡ now ++ (if passes item then (if any then codes "," else []) ++ of item else []) → AreTold (told_to (n + 1)) first next some
     next_item item next some found is adds =
         let more : take (n + 1) items ≡ take n items ++ item ∷ [] =
-        take_more items n item (slice_get_within items n item found) ∙ ap (λ (last : A). take n items ++ last ∷ []) (get_or_from_slice_get items n item item found) in
+        take_more items n item (slice_get_within items n item found)
+        ∙ ap (λ (last : A). take n items ++ last ∷ []) (get_or_from_slice_get items n item item found) in
         subst (λ (values : List (List ℕ)). AreTold values first next some)
         (sym (ap (λ (all : List A). map of (filter passes all)) more ∙ picked_more passes of (take n items) item))
         (one_told (told_to n) first now any so_far (of item) next some (passes item) is adds)
@@ -99,7 +98,8 @@ module _ (passes : ℕ → Bool) (of : ℕ → List ℕ) where
   told_below n = map of (filter passes (range_with_len 0 n))
 
   module _ (n : ℕ) (first now : List ℕ) (any : Bool) (so_far : AreTold (told_below n) first now any) where
-    pub next_told : (next : List ℕ) (some : Bool) → some ≡ (any || passes n) → next ≡ now ++ (if passes n then (if any then codes "," else []) ++ of n else []) → AreTold (told_below (n + 1)) first next some
+    pub next_told : (next : List ℕ) (some : Bool) → some ≡ (any || passes n) → next ≡ now ++ (if passes n then (if any then codes "," else []) ++ of n else [])
+        → AreTold (told_below (n + 1)) first next some
     next_told next some is adds =
         subst (λ (values : List (List ℕ)). AreTold values first next some)
         (sym (ap (λ (numbers : List ℕ). map of (filter passes numbers)) (next_number n) ∙ picked_more passes of (range_with_len 0 n) n))

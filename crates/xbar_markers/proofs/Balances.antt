@@ -1,13 +1,7 @@
 -- That nothing is lost and nothing comes twice, by weights, and how it goes over what a worker does.
 use Rattle.std.proofs.Common.{◌≡◌, ℕ, ◌+◌, List, [], ◌∷◌, ◌++◌, flat_map, map, refl, ap, arith, sum_by}
-use Rattle.std.proofs.lemmas.List.Sums.{sum_by-append, sum_by-cons}
-use Rattle.fair_queue.proofs.Weights.{sum_by-flat_map}
-use Rattle.xbar_office.specs.declared.reply.Record.{Record}
-use Rattle.xbar_markers.specs.Calls.{records_of}
-use Rattle.xbar_markers.specs.Shares.{IsBalanced, in_tasks, out_of}
-use Rattle.xbar_markers.specs.declared.call.Call.{Call}
-use Rattle.xbar_markers.specs.declared.call_records.CallRecords.{CallRecords}
-use Rattle.xbar_markers.specs.Shares.{Share}
+use Rattle.{std.proofs.lemmas.List.Sums.{sum_by-append, sum_by-cons}, fair_queue.proofs.Weights.sum_by-flat_map, xbar_office.specs.declared.reply.Record.Record}
+use Rattle.xbar_markers.specs.{Calls.records_of, Shares.{IsBalanced, in_tasks, out_of, Share}, declared.{call.Call.Call, call_records.CallRecords.CallRecords}}
 use Rattle.xbar_markers.specs.Tasks.{Task}
 use Rattle.xbar_markers.specs.declared.task.Task.TheVariants as task
 
@@ -66,23 +60,51 @@ AreRecordsLeft done share =
 calls_left : (done : List Record) (share : Share) → IsBalanced done share → AreCallsLeft share
 calls_left done share balanced w =
     let e = balanced.calls w in
-    omega (arith, sum_by-append w share.calls.taken (map (λ c. c.call) (in_tasks share.tasks.taken)), calls_weigh w (in_tasks share.tasks.taken), in_tasks_weigh (on_call w) share.tasks.taken, calls_weigh w (out_of share), out_weighs (on_call w) share)
+    omega (
+      arith,
+      sum_by-append w share.calls.taken (map (λ c. c.call) (in_tasks share.tasks.taken)),
+      calls_weigh w (in_tasks share.tasks.taken),
+      in_tasks_weigh (on_call w) share.tasks.taken,
+      calls_weigh w (out_of share),
+      out_weighs (on_call w) share,
+    )
 
 records_left : (done : List Record) (share : Share) → IsBalanced done share
     → AreRecordsLeft done share
 records_left done share balanced w =
     let e = balanced.records w in
-    omega (arith, sum_by-append w done (flat_map records_of (in_tasks share.tasks.taken)), sum_by-flat_map w records_of (in_tasks share.tasks.taken), in_tasks_weigh (on_records w) share.tasks.taken, sum_by-flat_map w records_of (out_of share), out_weighs (on_records w) share)
+    omega (
+      arith,
+      sum_by-append w done (flat_map records_of (in_tasks share.tasks.taken)),
+      sum_by-flat_map w records_of (in_tasks share.tasks.taken),
+      in_tasks_weigh (on_records w) share.tasks.taken,
+      sum_by-flat_map w records_of (out_of share),
+      out_weighs (on_records w) share,
+    )
 
 balanced_by : (done : List Record) (share : Share) → AreCallsLeft share
     → AreRecordsLeft done share → IsBalanced done share
 balanced_by done share calls records = record {
   calls = λ w.
       let e = calls w in
-      omega (arith, sum_by-append w share.calls.taken (map (λ c. c.call) (in_tasks share.tasks.taken)), calls_weigh w (in_tasks share.tasks.taken), in_tasks_weigh (on_call w) share.tasks.taken, calls_weigh w (out_of share), out_weighs (on_call w) share);
+      omega (
+        arith,
+        sum_by-append w share.calls.taken (map (λ c. c.call) (in_tasks share.tasks.taken)),
+        calls_weigh w (in_tasks share.tasks.taken),
+        in_tasks_weigh (on_call w) share.tasks.taken,
+        calls_weigh w (out_of share),
+        out_weighs (on_call w) share,
+      );
   records = λ w.
       let e = records w in
-      omega (arith, sum_by-append w done (flat_map records_of (in_tasks share.tasks.taken)), sum_by-flat_map w records_of (in_tasks share.tasks.taken), in_tasks_weigh (on_records w) share.tasks.taken, sum_by-flat_map w records_of (out_of share), out_weighs (on_records w) share);
+      omega (
+        arith,
+        sum_by-append w done (flat_map records_of (in_tasks share.tasks.taken)),
+        sum_by-flat_map w records_of (in_tasks share.tasks.taken),
+        in_tasks_weigh (on_records w) share.tasks.taken,
+        sum_by-flat_map w records_of (out_of share),
+        out_weighs (on_records w) share,
+      );
 }
 
 -- these calls and tasks came to a share, and of the calls that it passed on or has these are gone

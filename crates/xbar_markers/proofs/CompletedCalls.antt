@@ -1,21 +1,10 @@
 -- What a desk has completed once it did one job more for a call, or two.
 use Rattle.std.proofs.Common.{◌≡◌, ◌∙◌, ℕ, ◌+◌, ◌*◌, ◌<◌, ◌^◌, List, [], Some, None, true, append-nil, length, length-append, sym, refl, ap, arith}
-use Rattle.std.proofs.lemmas.List.Elements.{All-head, All-nil}
-use Rattle.desks.specs.Parts.{Begins}
-use Rattle.xbar_office.specs.declared.job.Job.{Job}
-use Rattle.xbar_office.specs.declared.job.Job.TheVariants.{Complete, Release}
-use Rattle.xbar_office.specs.declared.reply.Record.{Record}
-use Rattle.xbar_moves.specs.Exchange.{is_idle}
-use Rattle.xbar_moves.specs.Kinds.{takes}
-use Rattle.xbar_moves.specs.declared.kind.Kind.{Kind}
-use Rattle.xbar_moves.specs.declared.kind.Kind.TheVariants.{Completing}
-use Rattle.xbar_fabric.specs.Meetings.{MarkerHasLearned}
-use Rattle.xbar_fabric.specs.Views.{DeskView, FabricView, mine}
-use Rattle.xbar_markers.specs.Calls.{HasDialTone, is_connected}
-use Rattle.xbar_markers.specs.Notes.{IsNoted}
-use Rattle.xbar_markers.specs.Shares.{HasCompleted}
-use Rattle.xbar_markers.specs.Work.{HasDone, IsReady, WorkerHasWorked}
-use Rattle.xbar_markers.specs.declared.call_records.CallRecords.{CallRecords}
+use Rattle.{std.proofs.lemmas.List.Elements.{All-head, All-nil}, desks.specs.Parts.Begins}
+use Rattle.xbar_office.specs.declared.{job.Job.{Job, TheVariants.{Complete, Release}}, reply.Record.Record}
+use Rattle.xbar_moves.specs.{Exchange.is_idle, Kinds.takes, declared.kind.Kind.{Kind, TheVariants.Completing}}
+use Rattle.{xbar_fabric.specs.{Meetings.MarkerHasLearned, Views.{DeskView, FabricView, mine}}, xbar_markers.specs.Calls.{HasDialTone, is_connected}}
+use Rattle.xbar_markers.specs.{Notes.IsNoted, Shares.HasCompleted, Work.{HasDone, IsReady, WorkerHasWorked}, declared.call_records.CallRecords.CallRecords}
 use Rattle.xbar_markers.proofs.Works.{IsShort, done_worked, short_begins, worked_on}
 
 -- a desk that has learned a note is ready still

@@ -1,39 +1,27 @@
 -- thread states in two parts, those that dial and those that complete calls, and what one of their
 -- workers does at the end
-use Rattle.std.proofs.Common.{◌≡◌, ℕ, zero, suc, ◌+◌, ◌<◌, List, [], ◌∷◌, ◌++◌, map, length, take, drop, sym, refl, ap, ◌∙◌, subst, arith, All, flat_map, get_or, sum_by}
-use Rattle.std.proofs.lemmas.List.{get_or-drop, get_or-map, get_or-take, length-drop, length-map, length-take, map-append, map-set, take-append-drop}
-use Rattle.std.proofs.lemmas.List.Elements.{All-head}
-use Rattle.std.proofs.lemmas.List.Sums.{sum_by-append}
-use Rattle.std.proofs.lemmas.Option.{slice_get-map}
-use Rattle.std.specs.Prelude.{OnOk, Some, Result, Ok, Err, option_map, slice_get, slice_set}
-use Rattle.fair_queue.specs.Tickets.{TicketView, with_fewer_parts}
-use Rattle.xbar_moves.specs.declared.kind.Kind.{Kind}
-use Rattle.xbar_moves.specs.declared.kind.Kind.TheVariants.{Completing, Dial}
-use Rattle.xbar_fabric.specs.Views.{DeskView, FabricView}
-use Rattle.xbar_markers.specs.ThreadStates.{AreStatesOf, HaveServed, IsThreadState, IsThere, KeepShares, desk_at, desks_at}
-use Rattle.xbar_markers.specs.Shares.{HasServed, HasStopped, IsFilled, IsShareOf, in_tasks, out_of}
-use Rattle.xbar_markers.specs.DesksByKind.{kinds_of}
-use Rattle.xbar_markers.specs.Work.{AreShort}
-use Rattle.xbar_markers.specs.Calls.{HasDialTone, IsServed, records_of}
-use Rattle.xbar_markers.specs.declared.call.Call.{Call}
-use Rattle.xbar_markers.specs.declared.call_records.CallRecords.{CallRecords}
-use Rattle.xbar_markers.specs.Shares.{Queues}
-use Rattle.xbar_markers.specs.ThreadStates.{ThreadState}
-use Rattle.xbar_markers.specs.Shares.{Share}
-use Rattle.xbar_markers.specs.Tasks.{Task}
-use Rattle.xbar_markers.specs.declared.worker.Worker.{Worker}
-use Rattle.xbar_markers.proofs.KindsOfDesks.{are_split}
+use Rattle.std.proofs.Common.{◌≡◌, ℕ, zero, suc, ◌+◌, ◌<◌, List, [], ◌∷◌, ◌++◌, map, length, take, drop, sym, refl, ap, ◌∙◌, subst, arith, All, flat_map}
+use Rattle.std.proofs.Common.{get_or, sum_by, get_or-drop, get_or-take, length-drop, length-take, take-append-drop, OnOk, Some, Result, Ok, Err, option_map}
+use Rattle.std.proofs.Common.{slice_get, slice_set}
+use Rattle.std.proofs.lemmas.{List.{get_or-map, length-map, map-append, map-set, Elements.All-head, Sums.sum_by-append}, Option.slice_get-map}
+use Rattle.{fair_queue.specs.Tickets.{TicketView, with_fewer_parts}, xbar_moves.specs.declared.kind.Kind.{Kind, TheVariants.{Completing, Dial}}}
+use Rattle.{xbar_fabric.specs.Views.{DeskView, FabricView}, xbar_markers.specs.ThreadStates.{AreStatesOf, HaveServed, IsThreadState, IsThere, KeepShares}}
+use Rattle.xbar_markers.specs.{ThreadStates.{desk_at, desks_at, ThreadState}, Shares.{HasServed, HasStopped, IsFilled, IsShareOf, in_tasks, out_of, Queues}}
+use Rattle.xbar_markers.specs.{Shares.Share, DesksByKind.kinds_of, Work.AreShort, Calls.{HasDialTone, IsServed, records_of}, declared.call.Call.Call}
+use Rattle.xbar_markers.{specs.{declared.{call_records.CallRecords.CallRecords, worker.Worker.Worker}, Tasks.Task}, proofs.KindsOfDesks.are_split}
 
 module _ {G : Type 0} where
   -- the first states are of the first desks, and the others of the others
-  pub first_seats : (n : ℕ) (befores : List DeskView) (states : List (ThreadState DeskView G)) → AreStatesOf befores states → AreStatesOf (take n befores) (take n states)
+  pub first_seats : (n : ℕ) (befores : List DeskView) (states : List (ThreadState DeskView G)) → AreStatesOf befores states
+      → AreStatesOf (take n befores) (take n states)
   first_seats zero befores states are = tt
   first_seats (suc n) [] [] are = tt
   first_seats (suc n) [] (state ∷ states) are = absurd are
   first_seats (suc n) (before ∷ befores) [] are = absurd are
   first_seats (suc n) (before ∷ befores) (state ∷ states) are = (are.0, first_seats n befores states are.1)
 
-  pub last_seats : (n : ℕ) (befores : List DeskView) (states : List (ThreadState DeskView G)) → AreStatesOf befores states → AreStatesOf (drop n befores) (drop n states)
+  pub last_seats : (n : ℕ) (befores : List DeskView) (states : List (ThreadState DeskView G)) → AreStatesOf befores states
+      → AreStatesOf (drop n befores) (drop n states)
   last_seats zero befores states are = are
   last_seats (suc n) [] [] are = tt
   last_seats (suc n) [] (state ∷ states) are = absurd are
@@ -45,7 +33,8 @@ module _ {G : Type 0} where
   AnySeat fabric queues state = IsThreadState (desk_at state).kind fabric queues state
 
   module _ (dialling completing : ℕ) (fabric : FabricView) (queues : Queues) (desks : List DeskView) (states : List (ThreadState DeskView G))
-      (kinds : map (λ (d : DeskView). d.kind) desks ≡ kinds_of dialling completing) (theirs : map desk_at states ≡ desks) (all : All (AnySeat fabric queues) states) where
+      (kinds : map (λ (d : DeskView). d.kind) desks ≡ kinds_of dialling completing) (theirs : map desk_at states ≡ desks)
+      (all : All (AnySeat fabric queues) states) where
     as_many : length states ≡ dialling + completing
     as_many =
         let count = (are_split dialling completing desks kinds).count in
@@ -60,7 +49,8 @@ module _ {G : Type 0} where
         let count = as_many in
         let near : i < dialling = omega (arith, below, length-take dialling states) in
         let within : i < length states = omega (arith, near, count) in
-        let kind : (desk_at (get_or states i e)).kind ≡ Dial = sym (ap (λ (d : DeskView). d.kind) (kind_at i e within)) ∙ (are_split dialling completing desks kinds).first i (desk_at e) near in
+        let kind : (desk_at (get_or states i e)).kind ≡ Dial =
+        sym (ap (λ (d : DeskView). d.kind) (kind_at i e within)) ∙ (are_split dialling completing desks kinds).first i (desk_at e) near in
         subst (IsThreadState Dial fabric queues) (sym (get_or-take dialling states i e near))
         (subst (λ (k : Kind). IsThreadState k fabric queues (get_or states i e)) kind (all i e within))
 
@@ -90,14 +80,16 @@ module _ {G : Type 0} where
   desks_there (state ∷ states) = ap (λ (l : List DeskView). desk_at state ∷ l) (desks_there states)
 
   -- a worker that dials is first
-  pub there_first : (fabric : FabricView) (queues : Queues) (dialled completed : List (ThreadState DeskView G)) → All (IsThreadState Dial fabric queues) dialled → 0 < length dialled → IsThere Dial fabric (map worker_of dialled ++ map worker_of completed) 0
+  pub there_first : (fabric : FabricView) (queues : Queues) (dialled completed : List (ThreadState DeskView G)) → All (IsThreadState Dial fabric queues) dialled
+      → 0 < length dialled → IsThere Dial fabric (map worker_of dialled ++ map worker_of completed) 0
   there_first fabric queues [] completed all some = absurd (omega (arith, some))
   there_first fabric queues (state ∷ dialled) completed all some =
       let first = All-head (IsThreadState Dial fabric queues) state dialled all in
       (first.ready, first.kind_is)
 
   -- and after all that dial is one that completes calls
-  pub there_next : (fabric : FabricView) (queues : Queues) (dialled completed : List (ThreadState DeskView G)) → All (IsThreadState Completing fabric queues) completed → 0 < length completed
+  pub there_next : (fabric : FabricView) (queues : Queues) (dialled completed : List (ThreadState DeskView G))
+      → All (IsThreadState Completing fabric queues) completed → 0 < length completed
       → IsThere Completing fabric (map worker_of dialled ++ map worker_of completed) (length dialled)
   there_next fabric queues [] [] all some = absurd (omega (arith, some))
   there_next fabric queues [] (state ∷ completed) all some =
@@ -111,10 +103,13 @@ module _ {G : Type 0} where
       → IsShareOf (befores ++ others) (desks ++ map desk_at states) after
 
   -- once all shares are in one, it is that of all desks
-  pub all_gathered : (n : ℕ) (befores : List DeskView) (states first last dialled completed : List (ThreadState DeskView G)) (whole one two : Share) (workers : List (Worker DeskView G))
-      → AreStatesOf befores states → first ≡ take n states → last ≡ drop n states → KeepShares first dialled → KeepShares last completed → IsShareOf [] [] whole → Gathers dialled whole one → Gathers completed one two
+  pub all_gathered : (n : ℕ) (befores : List DeskView) (states first last dialled completed : List (ThreadState DeskView G)) (whole one two : Share)
+      (workers : List (Worker DeskView G))
+      → AreStatesOf befores states → first ≡ take n states → last ≡ drop n states → KeepShares first dialled → KeepShares last completed → IsShareOf [] [] whole
+      → Gathers dialled whole one → Gathers completed one two
       → workers ≡ map worker_of dialled ++ map worker_of completed → IsShareOf befores (desks_at workers) two
-  all_gathered n befores states first last dialled completed whole one two workers are first_is last_is stay_first stay_last none gathers_one gathers_two workers_are =
+  all_gathered n befores states first last dialled completed whole one two workers are first_is last_is stay_first stay_last none gathers_one gathers_two
+      workers_are =
       let of_first = stay_first (take n befores) (subst (AreStatesOf (take n befores)) (sym first_is) (first_seats n befores states are)) in
       let of_last = stay_last (drop n befores) (subst (AreStatesOf (drop n befores)) (sym last_is) (last_seats n befores states are)) in
       let both = gathers_two (take n befores) (map desk_at dialled) (drop n befores) (gathers_one [] [] (take n befores) none of_first) of_last in
@@ -125,10 +120,12 @@ module _ {G : Type 0} where
       (subst (λ (l : List DeskView). IsShareOf l (map desk_at dialled ++ map desk_at completed) two) (take-append-drop n befores) both)
 
   -- what one of the workers did, they all did
-  pub served_at : (k : ℕ) (workers : List (Worker DeskView G)) (w after : Worker DeskView G) (share share_after : Share) → slice_get workers k ≡ Some w → HasServed w.desk share after.desk share_after
+  pub served_at : (k : ℕ) (workers : List (Worker DeskView G)) (w after : Worker DeskView G) (share share_after : Share) → slice_get workers k ≡ Some w
+      → HasServed w.desk share after.desk share_after
       → HaveServed workers share (slice_set workers k after) share_after
   served_at k workers w after share share_after there served befores of =
-      let desk_there : slice_get (desks_at workers) k ≡ Some w.desk = slice_get-map (λ (x : Worker DeskView G). x.desk) workers k ∙ ap (option_map (λ (x : Worker DeskView G). x.desk)) there in
+      let desk_there : slice_get (desks_at workers) k ≡ Some w.desk =
+      slice_get-map (λ (x : Worker DeskView G). x.desk) workers k ∙ ap (option_map (λ (x : Worker DeskView G). x.desk)) there in
       subst (λ (l : List DeskView). IsShareOf befores l share_after) (sym (map-set (λ (x : Worker DeskView G). x.desk) workers k after))
       (served befores (desks_at workers) k desk_there of)
 
@@ -138,7 +135,8 @@ on_ok (Ok value) f p = f p
 on_ok (Err why) f p = tt
 
 -- a share to which nothing came is nobody's
-pub nobodys : (share : Share) → share.calls.taken ≡ [] → share.tasks.taken ≡ [] → in_tasks share.tasks.put ≡ [] → share.kept.items ≡ [] → share.ended.items ≡ [] → IsShareOf [] [] share
+pub nobodys : (share : Share) → share.calls.taken ≡ [] → share.tasks.taken ≡ [] → in_tasks share.tasks.put ≡ [] → share.kept.items ≡ [] → share.ended.items ≡ []
+    → IsShareOf [] [] share
 nobodys share no_calls no_tasks none_put none_kept none_ended =
     let out_none : out_of share ≡ [] = λ i. none_put i ++ none_kept i ++ none_ended i in record {
       done = [];
@@ -146,8 +144,10 @@ nobodys share no_calls no_tasks none_put none_kept none_ended =
       balanced = record {
         calls = λ h.
             let taken : sum_by h share.calls.taken ≡ 0 = ap (sum_by h) no_calls in
-            let tasks : sum_by h (map (λ (c : CallRecords). c.call) (in_tasks share.tasks.taken)) ≡ 0 = ap (λ l. sum_by h (map (λ (c : CallRecords). c.call) (in_tasks l))) no_tasks in
-            let out : sum_by h (map (λ (c : CallRecords). c.call) (out_of share)) ≡ 0 = ap (λ (l : List CallRecords). sum_by h (map (λ (c : CallRecords). c.call) l)) out_none in
+            let tasks : sum_by h (map (λ (c : CallRecords). c.call) (in_tasks share.tasks.taken)) ≡ 0 =
+            ap (λ l. sum_by h (map (λ (c : CallRecords). c.call) (in_tasks l))) no_tasks in
+            let out : sum_by h (map (λ (c : CallRecords). c.call) (out_of share)) ≡ 0 =
+            ap (λ (l : List CallRecords). sum_by h (map (λ (c : CallRecords). c.call) l)) out_none in
             omega (arith, taken, tasks, out, sum_by-append h share.calls.taken (map (λ (c : CallRecords). c.call) (in_tasks share.tasks.taken)));
         records = λ h.
             let tasks : sum_by h (flat_map records_of (in_tasks share.tasks.taken)) ≡ 0 = ap (λ l. sum_by h (flat_map records_of (in_tasks l))) no_tasks in
@@ -159,7 +159,8 @@ nobodys share no_calls no_tasks none_put none_kept none_ended =
     }
 
 -- nor is the share that is left once the thread states have their parts and the stops are put
-pub nobodys_after : (queues : Queues) (calls : List Call) (n : ℕ) (filled hired after : Share) → IsFilled queues calls filled → hired.calls ≡ with_fewer_parts filled.calls n → hired.tasks ≡ with_fewer_parts filled.tasks n
+pub nobodys_after : (queues : Queues) (calls : List Call) (n : ℕ) (filled hired after : Share) → IsFilled queues calls filled
+    → hired.calls ≡ with_fewer_parts filled.calls n → hired.tasks ≡ with_fewer_parts filled.tasks n
     → hired.kept.items ≡ filled.kept.items → hired.ended.items ≡ filled.ended.items → HasStopped hired after → IsShareOf [] [] after
 nobodys_after queues calls n filled hired after is calls_are tasks_are kept_is ended_is stopped =
     nobodys after

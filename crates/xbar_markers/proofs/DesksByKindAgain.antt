@@ -1,13 +1,8 @@
 -- desks that have worked are still idle desks by kind, as before
-use Rattle.std.proofs.Common.{◌≡◌, ℕ, zero, suc, true, List, [], ◌∷◌, All, map, length, ap, ◌∙◌, arith, refl}
-use Rattle.std.specs.Prelude.{IfSome, slice_get}
-use Rattle.xbar_office.specs.declared.reply.Record.{Record}
-use Rattle.xbar_moves.specs.Exchange.{is_idle}
-use Rattle.xbar_moves.specs.declared.kind.Kind.{Kind}
-use Rattle.xbar_fabric.specs.Meetings.{AreAllIdle}
-use Rattle.xbar_fabric.specs.Views.{DeskView, FabricView, IsDeskOf}
-use Rattle.xbar_markers.specs.DesksByKind.{AreDesksByKind}
-use Rattle.xbar_markers.specs.Work.{WorkerHasWorked, HaveWorked, IsReady}
+use Rattle.std.proofs.Common.{◌≡◌, ℕ, zero, suc, true, List, [], ◌∷◌, All, map, length, ap, ◌∙◌, arith, refl, IfSome, slice_get}
+use Rattle.{xbar_office.specs.declared.reply.Record.Record, xbar_moves.specs.{Exchange.is_idle, declared.kind.Kind.Kind}}
+use Rattle.xbar_fabric.specs.{Meetings.AreAllIdle, Views.{DeskView, FabricView, IsDeskOf}}
+use Rattle.xbar_markers.specs.{DesksByKind.AreDesksByKind, Work.{WorkerHasWorked, HaveWorked, IsReady}}
 
 abbrev kind_of : DeskView → Kind
 kind_of desk = desk.kind
@@ -32,7 +27,8 @@ module _ (fabric : FabricView) where
     plan_is = ap (λ (x : DeskView). x.plan) worked.same ∙ was.plan_is;
   }
 
-  ready_again : (befores desks : List DeskView) (records : List Record) → HaveWorked befores desks records → All (λ desk. IsReady desk fabric) befores → All (λ desk. IsReady desk fabric) desks
+  ready_again : (befores desks : List DeskView) (records : List Record) → HaveWorked befores desks records → All (λ desk. IsReady desk fabric) befores
+      → All (λ desk. IsReady desk fabric) desks
   ready_again [] [] records worked ready i e below = absurd (omega (arith, below))
   ready_again [] (d ∷ desks) records worked ready i e below = absurd worked
   ready_again (b ∷ befores) [] records worked ready i e below = absurd worked
@@ -54,7 +50,8 @@ module _ (fabric : FabricView) where
   there_again (b ∷ befores) (d ∷ desks) records place worked there (suc i) =
       there_again befores desks worked.1 (λ n. place (suc n)) worked.4 (λ n. there (suc n)) i
 
-  pub by_kind_again : (befores desks : List DeskView) (records : List Record) → HaveWorked befores desks records → AreDesksByKind befores fabric → AreDesksByKind desks fabric
+  pub by_kind_again : (befores desks : List DeskView) (records : List Record) → HaveWorked befores desks records → AreDesksByKind befores fabric
+      → AreDesksByKind desks fabric
   by_kind_again befores desks records worked by_kind = record {
     dialling = by_kind.dialling;
     completing = by_kind.completing;
@@ -64,7 +61,8 @@ module _ (fabric : FabricView) where
     ready = ready_again befores desks records worked by_kind.ready;
   }
 
-  pub idle_again : (befores desks : List DeskView) (records : List Record) → HaveWorked befores desks records → AreAllIdle befores fabric → AreAllIdle desks fabric
+  pub idle_again : (befores desks : List DeskView) (records : List Record) → HaveWorked befores desks records → AreAllIdle befores fabric
+      → AreAllIdle desks fabric
   idle_again befores desks records worked idle = record {
     count = as_many befores desks records worked ∙ idle.count;
     each = there_again befores desks records (λ n. n) worked idle.each;

@@ -1,33 +1,19 @@
 -- a desk whose job goes from one worker to another
-use Rattle.std.proofs.Common.{◌≡◌, ◌≢◌, ℕ, ◌≤◌, ◌<◌, ◌^◌, Bool, false, true, Some, List, [], ◌∷◌, ◌++◌, append-nil, append_assoc, length, refl, sym, ◌∙◌, ap, subst}
-use Rattle.std.specs.Prelude.{None, Option, if◌then◌else◌, is_some}
-use Rattle.std.proofs.lemmas.Option.{same_Some}
-use Rattle.turns.specs.Attempt.{act, begin_with, turn_in}
-use Rattle.turns.specs.Runs.{is_finished}
-use Rattle.turns.specs.World.{Idle, Does}
-use Rattle.desks.specs.Parts.{Begins}
-use Rattle.xbar_office.specs.declared.job.Job.{Job}
-use Rattle.xbar_office.specs.declared.reply.Record.{Record}
-use Rattle.xbar_jobs.specs.Jobs.{first_conn}
-use Rattle.xbar_moves.specs.Exchange.{Work, is_idle}
-use Rattle.xbar_moves.specs.Moves.{given_by}
-use Rattle.xbar_moves.specs.declared.event.Event.TheVariants.{Finished}
+use Rattle.std.proofs.Common.{◌≡◌, ◌≢◌, ℕ, ◌≤◌, ◌<◌, ◌^◌, Bool, false, true, Some, List, [], ◌∷◌, ◌++◌, append-nil, append_assoc, length, refl, sym, ◌∙◌, ap}
+use Rattle.std.proofs.Common.{subst, None, Option, if◌then◌else◌, is_some}
+use Rattle.{std.proofs.lemmas.Option.same_Some, turns.specs.{Attempt.{act, begin_with, turn_in}, Runs.is_finished, World.{Idle, Does}}}
+use Rattle.{xbar_office.specs.declared.{job.Job.Job, reply.Record.Record}, xbar_jobs.specs.Jobs.first_conn, xbar_moves.specs.Exchange.{Work, is_idle}}
+use Rattle.{xbar_moves.specs.{Moves.given_by, declared.event.Event.TheVariants.Finished}, xbar_fabric.specs.Advances.{MarkerHasAdvanced, MarkerHasGivenBack}}
+use Rattle.xbar_fabric.specs.{Advances.at_beginning, Histories.{job_at, turned_of}, Reports.{MarkerHasWorked, unreported}, Views.{DeskView, mine}}
+use Rattle.xbar_markers.specs.{Handing.{HasGiven, IsTakenOver}, Work.{HasDone, HasMadeSteps, IsDoing, IsDoneOr, reported_record}, declared.handing.Then.Then}
+use Rattle.xbar_markers.{specs.declared.handing.Then.TheVariants.GiveBack, proofs.{JobsInHand.{has_done, mine_at_end}, ToldRecords.told_end}}
 use Rattle.xbar_moves.specs.declared.given.Given.TheVariants as given
-use Rattle.xbar_fabric.specs.Advances.{MarkerHasAdvanced, MarkerHasGivenBack, at_beginning}
-use Rattle.xbar_fabric.specs.Histories.{job_at, turned_of}
-use Rattle.xbar_fabric.specs.Reports.{MarkerHasWorked, unreported}
-use Rattle.xbar_fabric.specs.Views.{DeskView, mine}
-use Rattle.xbar_markers.specs.Handing.{HasGiven, IsTakenOver}
 use Rattle.xbar_markers.specs.Work as work
-use Rattle.xbar_markers.specs.Work.{HasDone, HasMadeSteps, IsDoing, IsDoneOr, reported_record}
 use Rattle.xbar_markers.specs.declared.handing.Handed.TheVariants as handed
-use Rattle.xbar_markers.specs.declared.handing.Then.{Then}
-use Rattle.xbar_markers.specs.declared.handing.Then.TheVariants.{GiveBack}
-use Rattle.xbar_markers.proofs.JobsInHand.{has_done, mine_at_end}
-use Rattle.xbar_markers.proofs.ToldRecords.{told_end}
 
 -- a step that reported no record left its job under way
-pub busy_on : (desk after : DeskView) (reported : Option Record) → is_idle desk.work ≡ false → work.WorkerHasStepped desk after reported → reported ≡ None → is_idle after.work ≡ false
+pub busy_on : (desk after : DeskView) (reported : Option Record) → is_idle desk.work ≡ false → work.WorkerHasStepped desk after reported → reported ≡ None
+    → is_idle after.work ≡ false
 busy_on desk after reported busy step none = by (is_idle after.work) refl where
   by : (idle : Bool) → is_idle after.work ≡ idle → is_idle after.work ≡ false
   by false goes = goes
@@ -68,7 +54,8 @@ module _ (number : ℕ) (job : Job) (start : DeskView) where
   begins_its_job (Does n a) is = ap (λ (p : ℕ × Job). Does p.0 (begin_with (first_conn p.1) p.1)) (same_Some (n, a.job) (number, job) is)
 
   -- a desk at the job that gives back, which is no turn
-  pub has_given : (desk after : DeskView) → IsDoing number job start desk → after ≡ record desk { work = after.work; seen = after.seen } → given_by desk.work ≡ given.Given → MarkerHasGivenBack desk after
+  pub has_given : (desk after : DeskView) → IsDoing number job start desk → after ≡ record desk { work = after.work; seen = after.seen }
+      → given_by desk.work ≡ given.Given → MarkerHasGivenBack desk after
       → MarkerHasWorked desk after [] → HasGiven start after number job
   has_given desk after doing same gives back worked =
       let begins : after.work ≡ Does number (begin_with (first_conn job) job) = back.begins ∙ begins_its_job desk.work doing.at in
@@ -89,8 +76,10 @@ module _ (number : ℕ) (job : Job) (start : DeskView) where
       }
 
 -- a job that was left, and brought to its end
-pub taken_over : (before : DeskView) (number : ℕ) (job : Job) (asked : Then) (left desk after : DeskView) (r : Record) → desk ≡ left → (asked ≡ GiveBack → given_by left.work ≢ given.Given) → IsDoing number job before left
-    → ((start : DeskView) (n : ℕ) (j : Job) → IsDoing n j start desk → HasDone start after n j r) → (count : ℕ) × HasMadeSteps count desk after → IsTakenOver before number job asked left after (handed.Finished r)
+pub taken_over : (before : DeskView) (number : ℕ) (job : Job) (asked : Then) (left desk after : DeskView) (r : Record) → desk ≡ left
+    → (asked ≡ GiveBack → given_by left.work ≢ given.Given) → IsDoing number job before left
+    → ((start : DeskView) (n : ℕ) (j : Job) → IsDoing n j start desk → HasDone start after n j r) → (count : ℕ) × HasMadeSteps count desk after
+    → IsTakenOver before number job asked left after (handed.Finished r)
 taken_over before number job asked left desk after r same not doing done made = (
   not,
   done before number job (subst (IsDoing number job before) (sym same) doing),

@@ -1,8 +1,6 @@
 -- Tickets keep their parts over steps one after another, so what they may do stays.
 use Rattle.std.proofs.Common.{◌∙◌, ℕ, ◌<◌, sym, refl, subst}
-use Rattle.xbar_markers.specs.Shares.{HasTickets, MayUse}
-use Rattle.xbar_markers.specs.Shares.{Queues}
-use Rattle.xbar_markers.specs.Shares.{Share}
+use Rattle.xbar_markers.specs.Shares.{HasTickets, MayUse, Queues, Share}
 
 pub tickets_same : (s : Share) → HasTickets s s
 tickets_same s = record {

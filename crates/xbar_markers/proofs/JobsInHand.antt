@@ -1,24 +1,11 @@
 -- a desk that does one job
-use Rattle.std.proofs.Common.{◌≡◌, ℕ, zero, suc, ◌+◌, ◌≤◌, ◌<◌, ◌^◌, Bool, false, true, arith, List, [], ◌∷◌, ◌++◌, append-nil, append_assoc, length, refl, sym, ◌∙◌, ap, subst}
-use Rattle.std.specs.Prelude.{None, Option, Some, if◌then◌else◌, option_map, option_to_list, unwrap_or}
-use Rattle.std.proofs.lemmas.Option.{same_Some}
-use Rattle.turns.specs.Attempt.{begin_with, turn_in}
-use Rattle.turns.specs.World.{Idle, Does}
-use Rattle.desks.specs.Parts.{Begins}
-use Rattle.desks.specs.Watching.{watched_more}
-use Rattle.xbar_office.specs.declared.job.Job.{Job}
-use Rattle.xbar_office.specs.declared.reply.Record.{Record}
-use Rattle.xbar_office.specs.declared.reply.Reply.{Reply}
-use Rattle.xbar_jobs.specs.Jobs.{first_conn}
-use Rattle.xbar_moves.specs.Exchange.{Work, is_idle, on_job}
-use Rattle.xbar_moves.specs.Moves.{own_record}
-use Rattle.xbar_moves.specs.declared.event.Event.{Event}
-use Rattle.xbar_moves.specs.declared.event.Event.TheVariants.{Finished}
-use Rattle.xbar_fabric.specs.Advances.{MarkerHasAdvanced, MarkerHasRun}
-use Rattle.xbar_fabric.specs.Histories.{job_at, turned_of}
-use Rattle.xbar_fabric.specs.Reports.{MarkerHasWorked, ended, unreported}
-use Rattle.xbar_fabric.specs.Views.{DeskView, FabricView, IsDeskOf, mine}
-use Rattle.xbar_markers.specs.Work.{HasDone, HasMadeSteps, IsDoing}
+use Rattle.std.proofs.Common.{◌≡◌, ℕ, zero, suc, ◌+◌, ◌≤◌, ◌<◌, ◌^◌, Bool, false, true, arith, List, [], ◌∷◌, ◌++◌, append-nil, append_assoc, length, refl, sym}
+use Rattle.std.proofs.Common.{◌∙◌, ap, subst, None, Option, Some, if◌then◌else◌, option_map, option_to_list, unwrap_or}
+use Rattle.{std.proofs.lemmas.Option.same_Some, turns.specs.{Attempt.{begin_with, turn_in}, World.{Idle, Does}}, desks.specs.Parts.Begins}
+use Rattle.{desks.specs.Watching.watched_more, xbar_office.specs.declared.{job.Job.Job, reply.{Record.Record, Reply.Reply}}, xbar_jobs.specs.Jobs.first_conn}
+use Rattle.xbar_moves.specs.{Exchange.{Work, is_idle, on_job}, Moves.own_record, declared.event.Event.{Event, TheVariants.Finished}}
+use Rattle.xbar_fabric.specs.{Advances.{MarkerHasAdvanced, MarkerHasRun}, Histories.{job_at, turned_of}, Reports.{MarkerHasWorked, ended, unreported}}
+use Rattle.{xbar_fabric.specs.Views.{DeskView, FabricView, IsDeskOf, mine}, xbar_markers.specs.Work.{HasDone, HasMadeSteps, IsDoing}}
 
 -- what the laws of reports say of an advance
 abbrev pub Reports : Type 0
@@ -56,7 +43,8 @@ steps_both count (suc more) a b c first (between, event, made, busy, advanced) =
     let same : suc (count + more) ≡ count + suc more = omega arith in
     subst (λ (n : ℕ). HasMadeSteps n a c) same all
 
-pub one_step : (before after : DeskView) (event : Event) → is_idle before.work ≡ false → MarkerHasAdvanced before after event → HasMadeSteps (suc zero) before after
+pub one_step : (before after : DeskView) (event : Event) → is_idle before.work ≡ false → MarkerHasAdvanced before after event
+    → HasMadeSteps (suc zero) before after
 one_step before after event busy advanced = (before, event, refl, busy, advanced)
 
 -- a watch counts them one after another
@@ -67,7 +55,8 @@ watched_both count more (Some n) =
     ap Some same
 
 -- if nothing is left of a job after its step and further ones, its record is there
-pub ended_after : ReportsJob → (before between after : DeskView) (event : Event) → is_idle before.work ≡ false → MarkerHasAdvanced before between event → (count : ℕ) → HasMadeSteps count between after
+pub ended_after : ReportsJob → (before between after : DeskView) (event : Event) → is_idle before.work ≡ false → MarkerHasAdvanced before between event
+    → (count : ℕ) → HasMadeSteps count between after
     → is_idle after.work ≡ true → (r : Record) × (turned_of after ≡ r ∷ [])
 ended_after reports before between after event busy advanced zero same idle =
     let told = advanced.ended busy (subst (λ (d : DeskView). is_idle d.work ≡ true) same idle) in
@@ -89,7 +78,8 @@ turned_is_of k r (Does number a) is = by (turn_in a.phase) a.reply is where
   at : ℕ → Reply → Record
   at turn reply = record { turn = turn; marker = k; job_no = number; job = a.job; reply = reply }
 
-  by : (turn : Option ℕ) (reply : Option Reply) → unwrap_or (option_map (λ (t : ℕ). option_to_list (option_map (at t) reply)) turn) [] ≡ r ∷ [] → IsOf k r (Does number a)
+  by : (turn : Option ℕ) (reply : Option Reply) → unwrap_or (option_map (λ (t : ℕ). option_to_list (option_map (at t) reply)) turn) [] ≡ r ∷ []
+      → IsOf k r (Does number a)
   by None reply is = absurd cc
   by (Some turn) None is = absurd cc
   by (Some turn) (Some reply) is =
@@ -99,7 +89,8 @@ turned_is_of k r (Does number a) is = by (turn_in a.phase) a.reply is where
       }
 
 -- and so is of the job that the desk is at
-told_of_job : (number : ℕ) (job : Job) (r : Record) (work : Work) → job_at work ≡ Some (number, job) → on_job ⊥ (λ n a. (r.job_no ≡ n) × (r.job ≡ a.job)) work → (r.job_no ≡ number) × (r.job ≡ job)
+told_of_job : (number : ℕ) (job : Job) (r : Record) (work : Work) → job_at work ≡ Some (number, job) → on_job ⊥ (λ n a. (r.job_no ≡ n) × (r.job ≡ a.job)) work
+    → (r.job_no ≡ number) × (r.job ≡ job)
 told_of_job number job r Idle at reported = absurd reported
 told_of_job number job r (Does n a) at reported =
     let same = same_Some (n, a.job) (number, job) at in
@@ -123,7 +114,8 @@ module _ (number : ℕ) (job : Job) (start : DeskView) where
   }
 
   -- after one step more it is still at the job, or at its end
-  pub goes_on : (desk after : DeskView) → IsDoing number job start desk → after ≡ record desk { work = after.work; seen = after.seen } → Begins desk.seen after.seen
+  pub goes_on : (desk after : DeskView) → IsDoing number job start desk → after ≡ record desk { work = after.work; seen = after.seen }
+      → Begins desk.seen after.seen
       → mine after ≡ mine start ++ turned_of after → job_at after.work ≡ job_at desk.work → IsDoing number job start after
   goes_on desk after doing same grown mine_are stays = record {
     same = same ∙ ap (λ (d : DeskView). record d { work = after.work; seen = after.seen }) doing.same;
@@ -133,7 +125,8 @@ module _ (number : ℕ) (job : Job) (start : DeskView) where
   }
 
   -- by an advance
-  pub advanced_on : Reports → KeepsJob → (desk after : DeskView) (event : Event) → IsDoing number job start desk → MarkerHasAdvanced desk after event → IsDoing number job start after
+  pub advanced_on : Reports → KeepsJob → (desk after : DeskView) (event : Event) → IsDoing number job start desk → MarkerHasAdvanced desk after event
+      → IsDoing number job start after
   advanced_on reports keeps desk after event doing advanced = by (is_idle desk.work) refl where
     by : (idle : Bool) → is_idle desk.work ≡ idle → IsDoing number job start after
     by true idle = subst (IsDoing number job start) (sym (advanced.idle idle).0) doing
@@ -146,7 +139,8 @@ module _ (number : ℕ) (job : Job) (start : DeskView) where
         (keeps desk after event advanced)
 
   -- and by as many as are made at once
-  pub runs_on : Reports → KeepsJob → (count : ℕ) (desk after : DeskView) → IsDoing number job start desk → HasMadeSteps count desk after → IsDoing number job start after
+  pub runs_on : Reports → KeepsJob → (count : ℕ) (desk after : DeskView) → IsDoing number job start desk → HasMadeSteps count desk after
+      → IsDoing number job start after
   runs_on reports keeps zero desk after doing same = subst (IsDoing number job start) (sym same) doing
   runs_on reports keeps (suc count) desk after doing (between, event, made, busy, advanced) =
       advanced_on reports keeps between after event (runs_on reports keeps count desk between doing made) advanced

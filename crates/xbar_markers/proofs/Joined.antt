@@ -1,24 +1,10 @@
 -- Shares that are joined, and the first share of a desk.
-use Rattle.std.proofs.Common.{◌≡◌, ℕ, ◌+◌, ◌<◌, ◌^◌, List, [], ◌∷◌, ◌++◌, All, length, map, flat_map, sum_by, refl, sym, ap, ◌∙◌, arith}
-use Rattle.std.specs.Prelude.{true}
-use Rattle.std.proofs.lemmas.List.{append-nil, map-append}
-use Rattle.std.proofs.lemmas.List.Elements.{All-append, All-cons, All-head, All-nil, All-same, All-tail, All-weaker}
-use Rattle.std.proofs.lemmas.List.Sums.{sum_by-append}
-use Rattle.std.proofs.lemmas.Grind.{flat_map-append}
-use Rattle.fair_queue.specs.Items.{SameItems}
-use Rattle.fair_queue.specs.Tickets.{QueueName, new_ticket, ticket_of_both}
-use Rattle.xbar_moves.specs.Exchange.{is_idle}
-use Rattle.xbar_moves.specs.Kinds.{takes}
-use Rattle.xbar_fabric.specs.Views.{DeskView}
-use Rattle.xbar_office.specs.declared.reply.Record.{Record}
-use Rattle.xbar_markers.specs.Calls.{HasDialTone, IsServed, records_of}
-use Rattle.xbar_markers.specs.Shares.{IsBalanced, IsShareOf, in_task, in_tasks, out_of}
-use Rattle.xbar_markers.specs.Work.{AreShort, HaveWorked}
-use Rattle.xbar_markers.specs.declared.call.Call.{Call}
-use Rattle.xbar_markers.specs.declared.call_records.CallRecords.{CallRecords}
-use Rattle.xbar_markers.specs.Shares.{Share}
-use Rattle.xbar_markers.specs.Tasks.{Task}
-use Rattle.xbar_markers.proofs.Serving.{weaker_served}
+use Rattle.std.proofs.Common.{◌≡◌, ℕ, ◌+◌, ◌<◌, ◌^◌, List, [], ◌∷◌, ◌++◌, All, length, map, flat_map, sum_by, refl, sym, ap, ◌∙◌, arith, true, append-nil}
+use Rattle.std.proofs.lemmas.List.{map-append, Elements.{All-append, All-cons, All-head, All-nil, All-same, All-tail, All-weaker}, Sums.sum_by-append}
+use Rattle.{std.proofs.lemmas.Grind.flat_map-append, fair_queue.specs.{Items.SameItems, Tickets.{QueueName, new_ticket, ticket_of_both}}}
+use Rattle.{xbar_moves.specs.{Exchange.is_idle, Kinds.takes}, xbar_fabric.specs.Views.DeskView, xbar_office.specs.declared.reply.Record.Record}
+use Rattle.xbar_markers.specs.{Calls.{HasDialTone, IsServed, records_of}, Shares.{IsBalanced, IsShareOf, in_task, in_tasks, out_of, Share}, Work.AreShort}
+use Rattle.xbar_markers.{specs.{Work.HaveWorked, declared.{call.Call.Call, call_records.CallRecords.CallRecords}, Tasks.Task}, proofs.Serving.weaker_served}
 
 -- the same work, with its records in another order
 same_work : (befores desks : List DeskView) (records more : List Record) → SameItems records more

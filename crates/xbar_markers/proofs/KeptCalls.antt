@@ -1,21 +1,10 @@
 -- How a share goes over the calls that were kept, one by one.
 use Rattle.std.proofs.Common.{◌≡◌, ◌∙◌, ℕ, ◌+◌, List, [], ◌∷◌, ◌++◌, All, Some, true, append-nil, sym, refl, ap, subst, arith, sum_by, option_to_list}
-use Rattle.std.proofs.lemmas.List.Sums.{sum_by-cons, sum_by_push}
-use Rattle.std.proofs.lemmas.List.Elements.{All-cons, All-nil, All-pop}
-use Rattle.fair_queue.specs.Tickets.{TicketView}
-use Rattle.xbar_moves.specs.Exchange.{is_idle}
-use Rattle.xbar_fabric.specs.Views.{DeskView}
-use Rattle.xbar_markers.specs.Calls.{HasDialTone, IsServed}
-use Rattle.xbar_markers.specs.Shares.{HasCompleted, HasServed}
-use Rattle.xbar_markers.specs.Work.{AreShort}
-use Rattle.xbar_markers.specs.declared.call.Call.{Call}
-use Rattle.xbar_markers.specs.declared.call_records.CallRecords.{CallRecords}
-use Rattle.xbar_markers.specs.Shares.{Share}
-use Rattle.xbar_markers.specs.Tasks.{Task}
-use Rattle.xbar_markers.proofs.Balances.{HasMoved, IsMade, balanced_on, left, on_call, on_records, on_task}
-use Rattle.xbar_markers.proofs.ServedSteps.{HasEnded, completed_records, ended_out}
-use Rattle.xbar_markers.proofs.Serving.{has_served}
-use Rattle.xbar_markers.proofs.Works.{none_worked}
+use Rattle.{std.proofs.lemmas.List.{Sums.{sum_by-cons, sum_by_push}, Elements.{All-cons, All-nil, All-pop}}, fair_queue.specs.Tickets.TicketView}
+use Rattle.{xbar_moves.specs.Exchange.is_idle, xbar_fabric.specs.Views.DeskView, xbar_markers.specs.Calls.{HasDialTone, IsServed}}
+use Rattle.xbar_markers.specs.{Shares.{HasCompleted, HasServed, Share}, Work.AreShort, declared.{call.Call.Call, call_records.CallRecords.CallRecords}}
+use Rattle.xbar_markers.{specs.Tasks.Task, proofs.Balances.{HasMoved, IsMade, balanced_on, left, on_call, on_records, on_task}}
+use Rattle.xbar_markers.proofs.{ServedSteps.{HasEnded, completed_records, ended_out}, Serving.has_served, Works.none_worked}
 
 -- the last call that was kept was taken out, and nothing else changed
 pub record HasTakenKept (c : CallRecords) (share after : Share) : Type 0 where

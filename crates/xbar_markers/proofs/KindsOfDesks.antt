@@ -1,17 +1,15 @@
 -- of which kinds the desks are that work on calls
-use Rattle.std.proofs.Common.{◌≡◌, ℕ, zero, suc, ◌+◌, ◌<◌, ◌≤◌, List, [], ◌∷◌, map, length, ap, ◌∙◌, arith, refl, replicate}
+use Rattle.std.proofs.Common.{◌≡◌, ℕ, zero, suc, ◌+◌, ◌<◌, ◌≤◌, List, [], ◌∷◌, map, length, ap, ◌∙◌, arith, refl, replicate, slice_index_or}
 use native.Mathlib.Decide.{dec_lt}
-use Rattle.std.specs.Prelude.{slice_index_or}
-use Rattle.xbar_moves.specs.declared.kind.Kind.{Kind}
-use Rattle.xbar_moves.specs.declared.kind.Kind.TheVariants.{Completing, Dial}
-use Rattle.xbar_fabric.specs.Views.{DeskView}
+use Rattle.{xbar_moves.specs.declared.kind.Kind.{Kind, TheVariants.{Completing, Dial}}, xbar_fabric.specs.Views.DeskView}
 use Rattle.xbar_markers.specs.DesksByKind.{kinds_of}
 
 abbrev kind_of : DeskView → Kind
 kind_of desk = desk.kind
 
 -- all of these desks complete calls
-all_completing : (count : ℕ) (desks : List DeskView) → map kind_of desks ≡ replicate count Completing → (length desks ≡ count) × ((i : ℕ) (e : DeskView) → i < count → (slice_index_or desks i e).kind ≡ Completing)
+all_completing : (count : ℕ) (desks : List DeskView) → map kind_of desks ≡ replicate count Completing
+    → (length desks ≡ count) × ((i : ℕ) (e : DeskView) → i < count → (slice_index_or desks i e).kind ≡ Completing)
 all_completing zero [] are = (refl, λ i e below. absurd (omega arith))
 all_completing zero (d ∷ desks) are = absurd cc
 all_completing (suc count) [] are = absurd cc
@@ -21,7 +19,8 @@ all_completing (suc count) (d ∷ desks) are =
     let one = rest.0 in
     (omega (arith, one), at first rest.1)
   where
-    at : d.kind ≡ Completing → ((i : ℕ) (e : DeskView) → i < count → (slice_index_or desks i e).kind ≡ Completing) → (i : ℕ) (e : DeskView) → i < suc count → (slice_index_or (d ∷ desks) i e).kind ≡ Completing
+    at : d.kind ≡ Completing → ((i : ℕ) (e : DeskView) → i < count → (slice_index_or desks i e).kind ≡ Completing) → (i : ℕ) (e : DeskView) → i < suc count
+        → (slice_index_or (d ∷ desks) i e).kind ≡ Completing
     at first later zero e below = first
     at first later (suc i) e below = later i e (omega (arith, below))
 
@@ -49,11 +48,13 @@ are_split (suc dialling) completing (d ∷ desks) are =
       last = ends rest.last;
     }
   where
-    begins : d.kind ≡ Dial → ((i : ℕ) (e : DeskView) → i < dialling → (slice_index_or desks i e).kind ≡ Dial) → (i : ℕ) (e : DeskView) → i < suc dialling → (slice_index_or (d ∷ desks) i e).kind ≡ Dial
+    begins : d.kind ≡ Dial → ((i : ℕ) (e : DeskView) → i < dialling → (slice_index_or desks i e).kind ≡ Dial) → (i : ℕ) (e : DeskView) → i < suc dialling
+        → (slice_index_or (d ∷ desks) i e).kind ≡ Dial
     begins first later zero e below = first
     begins first later (suc i) e below = later i e (omega (arith, below))
 
-    ends : ((i : ℕ) (e : DeskView) → dialling ≤ i → i < dialling + completing → (slice_index_or desks i e).kind ≡ Completing) → (i : ℕ) (e : DeskView) → suc dialling ≤ i → i < suc dialling + completing
+    ends : ((i : ℕ) (e : DeskView) → dialling ≤ i → i < dialling + completing → (slice_index_or desks i e).kind ≡ Completing) → (i : ℕ) (e : DeskView)
+        → suc dialling ≤ i → i < suc dialling + completing
         → (slice_index_or (d ∷ desks) i e).kind ≡ Completing
     ends later zero e above below = absurd (omega (arith, above))
     ends later (suc i) e above below = later i e (omega (arith, above)) (omega (arith, below))

@@ -1,9 +1,6 @@
 -- steps of which a gate is notified, one after another
-use Rattle.std.proofs.Common.{◌≡◌, ℕ, zero, ◌+◌, refl, sym, ap, ◌∙◌, arith, Some}
-use Rattle.std.specs.Prelude.{None, Option}
-use Rattle.desks.specs.Watching.{watched_more}
-use Rattle.xbar_fabric.specs.Views.{DeskView}
-use Rattle.xbar_markers.specs.Work.{HasMadeSteps, HasPassed}
+use Rattle.std.proofs.Common.{◌≡◌, ℕ, zero, ◌+◌, refl, ap, ◌∙◌, arith, Some, None, Option}
+use Rattle.{desks.specs.Watching.watched_more, xbar_fabric.specs.Views.DeskView, xbar_markers.specs.Work.HasPassed}
 use Rattle.xbar_markers.proofs.JobsInHand.{steps_both, watched_both}
 
 none_watched : (passed : Option ℕ) → passed ≡ watched_more 0 passed

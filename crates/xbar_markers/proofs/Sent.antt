@@ -1,12 +1,12 @@
 -- A worker and its thread state may go to any thread to which the gate may: a desk may, and so may
 -- calls that were dialled. So may what comes back.
-use denote.Param.Send as send
 use denote.RattleType.{RattleType}
-use denote.Struct.Declared as declared
-use denote.Struct.Tuple as tuple
 use mathlib.Core.List.{[], ◌∷◌}
 use mir.Syntax.{Sym}
-use Rattle.std.proofs.Crossing.{Vec-send}
+use Rattle.{std.proofs.Crossing.Vec-send, xbar_fabric.proofs.Sent.desk_send}
+use denote.Param.Send as send
+use denote.Struct.Declared as declared
+use denote.Struct.Tuple as tuple
 use Rattle.std.proofs.alloc.AllocError.TheSendSync as alloc_error_sent
 use Rattle.std.proofs.result.Result.TheSendSync as result_sent
 use Rattle.std.specs.contracts.alloc.AllocError as alloc_error
@@ -14,7 +14,6 @@ use Rattle.std.specs.contracts.alloc.Global as global
 use Rattle.std.specs.contracts.impls.GlobalAllocator.TheImpl as allocator
 use Rattle.std.specs.contracts.result.Result as result
 use Rattle.std.specs.contracts.vec.Vec as vec
-use Rattle.xbar_fabric.proofs.Sent.{desk_send}
 use Rattle.xbar_fabric.specs.contracts.desk.Desk as desk
 use Rattle.xbar_markers.proofs.dialled_call.DialledCall.TheSendSync as call_sent
 use Rattle.xbar_markers.proofs.thread_state.ThreadState.TheSendSync as state_sent

@@ -1,17 +1,17 @@
 -- what goes to another thread with a desk, and comes back with it
-use denote.Param.Send as send
 use denote.RattleType.{RattleType}
-use denote.Struct.Declared as declared
-use denote.Struct.Tuple as tuple
 use mathlib.Core.List.{[], ◌∷◌}
 use mir.Syntax.{Sym}
+use Rattle.xbar_fabric.proofs.Sent.{desk_send}
+use denote.Param.Send as send
+use denote.Struct.Declared as declared
+use denote.Struct.Tuple as tuple
 use Rattle.std.proofs.option.Option.TheSendSync as option_sent
 use Rattle.std.proofs.result.Result.TheSendSync as result_sent
 use Rattle.std.specs.contracts.option.Option as option
 use Rattle.std.specs.contracts.result.Result as result
 use Rattle.xbar_moves.proofs.assign_fault.AssignFault.TheSendSync as fault_sent
 use Rattle.xbar_moves.specs.contracts.assign_fault.AssignFault as fault
-use Rattle.xbar_fabric.proofs.Sent.{desk_send}
 use Rattle.xbar_fabric.specs.contracts.desk.Desk as desk
 use Rattle.xbar_office.proofs.reply.Record.TheSendSync as reply_sent
 use Rattle.xbar_office.specs.contracts.reply.Record as reply

@@ -1,23 +1,13 @@
 -- How a share goes over each step of a worker: a call is dialled, or completed; a stop is taken.
-use Rattle.std.proofs.Common.{◌≡◌, ◌∙◌, ℕ, ◌+◌, List, [], ◌∷◌, ◌++◌, All, true, false, Option, IsSomeAnd, MatchOption, append-nil, sym, ap, subst, ⊎_elim, arith, sum_by, option_to_list}
-use Rattle.std.proofs.lemmas.List.Sums.{sum_by-append, sum_by-cons, sum_by_push}
-use Rattle.std.proofs.lemmas.List.Elements.{All-cons, All-nil, All-push}
-use Rattle.fair_queue.specs.Tickets.{TicketView, with_taken}
-use Rattle.xbar_office.specs.declared.job.Job.TheVariants.{Complete, Release}
-use Rattle.xbar_office.specs.declared.reply.Record.{Record}
-use Rattle.xbar_moves.specs.Exchange.{is_idle}
-use Rattle.xbar_fabric.specs.Views.{DeskView}
-use Rattle.xbar_markers.specs.Calls.{Follows, HasDialTone, IsDialled, IsLater, IsRecordOf, IsServed, IsToRelease, is_connected, is_dial_tone}
-use Rattle.xbar_markers.specs.Shares.{HasCompleted, HasPassedOn, HasServed}
-use Rattle.xbar_markers.specs.Work.{AreShort, WorkerHasWorked}
-use Rattle.xbar_markers.specs.declared.call.Call.{Call}
-use Rattle.xbar_markers.specs.declared.call_records.CallRecords.{CallRecords}
-use Rattle.xbar_markers.specs.Shares.{Share}
-use Rattle.xbar_markers.specs.Tasks.{Task}
+use Rattle.std.proofs.Common.{◌≡◌, ◌∙◌, ℕ, ◌+◌, List, [], ◌∷◌, ◌++◌, All, true, false, Option, IsSomeAnd, MatchOption, append-nil, sym, ap, subst, ⊎_elim}
+use Rattle.std.proofs.Common.{arith, sum_by, option_to_list}
+use Rattle.std.proofs.lemmas.List.{Sums.{sum_by-append, sum_by-cons, sum_by_push}, Elements.{All-cons, All-nil, All-push}}
+use Rattle.{fair_queue.specs.Tickets.{TicketView, with_taken}, xbar_office.specs.declared.{job.Job.TheVariants.{Complete, Release}, reply.Record.Record}}
+use Rattle.{xbar_moves.specs.Exchange.is_idle, xbar_fabric.specs.Views.DeskView, xbar_markers.specs.Calls.{Follows, HasDialTone, IsDialled, IsLater}}
+use Rattle.xbar_markers.specs.{Calls.{IsRecordOf, IsServed, IsToRelease, is_connected, is_dial_tone}, Shares.{HasCompleted, HasPassedOn, HasServed, Share}}
+use Rattle.xbar_markers.specs.{Work.{AreShort, WorkerHasWorked}, declared.{call.Call.Call, call_records.CallRecords.CallRecords}, Tasks.Task}
+use Rattle.xbar_markers.proofs.{Balances.{HasMoved, IsMade, balanced_on, left, on_call, on_records, on_task}, Serving.has_served, Works.none_worked}
 use Rattle.xbar_markers.specs.declared.task.Task.TheVariants as task
-use Rattle.xbar_markers.proofs.Balances.{HasMoved, IsMade, balanced_on, left, on_call, on_records, on_task}
-use Rattle.xbar_markers.proofs.Serving.{has_served}
-use Rattle.xbar_markers.proofs.Works.{none_worked}
 
 -- a call came through the first queue, and nothing else changed
 pub record HasTakenCall (call : Call) (share after : Share) : Type 0 where
@@ -188,7 +178,12 @@ task_completed before after c served share between share_after taken ended tone 
           let e = ap w done.call_is in
           omega (arith, sum_by-cons (on_task (on_call w)) (task.Complete c) [], sum_by-cons (on_call w) served []);
       records_are = λ w.
-          omega (arith, completed_records w before after c served tone done, sum_by-cons (on_task (on_records w)) (task.Complete c) [], sum_by-cons (on_records w) served []);
+          omega (
+            arith,
+            completed_records w before after c served tone done,
+            sum_by-cons (on_task (on_records w)) (task.Complete c) [],
+            sum_by-cons (on_records w) served [],
+          );
     } in
     has_served before after share share_after its (served ∷ []) done.worked
     (balanced_on moved made)

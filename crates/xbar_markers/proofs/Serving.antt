@@ -1,15 +1,10 @@
 -- How a share goes over each step of a worker, and over steps one after another.
-use Rattle.std.proofs.Common.{◌≡◌, ℕ, zero, suc, false, true, List, [], ◌∷◌, ◌++◌, All, Option, Some, None, IsSomeAnd, MatchOption, slice_get, slice_set, sym, refl, ap, subst}
-use Rattle.std.proofs.lemmas.List.Elements.{All-append, All-weaker}
-use Rattle.xbar_office.specs.declared.job.Job.TheVariants.{Complete, Release}
-use Rattle.xbar_office.specs.declared.reply.Record.{Record}
-use Rattle.xbar_fabric.specs.Views.{DeskView}
-use Rattle.xbar_markers.specs.Calls.{Follows, HasDialTone, IsLater, IsRecordOf, IsServed, IsToRelease, is_dial_tone}
-use Rattle.xbar_markers.specs.Shares.{HasServed, IsBalanced, IsShareOf}
-use Rattle.xbar_markers.specs.Work.{AreShort, WorkerHasWorked}
-use Rattle.xbar_markers.specs.declared.call_records.CallRecords.{CallRecords}
-use Rattle.xbar_markers.specs.Shares.{Share}
-use Rattle.xbar_markers.proofs.Works.{set_worked, short_after, short_before}
+use Rattle.std.proofs.Common.{◌≡◌, ℕ, zero, suc, false, true, List, [], ◌∷◌, ◌++◌, All, Option, Some, None, IsSomeAnd, MatchOption, slice_get, slice_set, sym}
+use Rattle.std.proofs.Common.{refl, ap, subst}
+use Rattle.{std.proofs.lemmas.List.Elements.{All-append, All-weaker}, xbar_office.specs.declared.{job.Job.TheVariants.{Complete, Release}, reply.Record.Record}}
+use Rattle.{xbar_fabric.specs.Views.DeskView, xbar_markers.specs.Calls.{Follows, HasDialTone, IsLater, IsRecordOf, IsServed, IsToRelease, is_dial_tone}}
+use Rattle.xbar_markers.specs.{Shares.{HasServed, IsBalanced, IsShareOf, Share}, Work.{AreShort, WorkerHasWorked}}
+use Rattle.xbar_markers.{specs.declared.call_records.CallRecords.CallRecords, proofs.Works.{set_worked, short_after, short_before}}
 
 -- a call that is served is also served under a stronger condition on turn numbers
 pub weaker_served : {short' short : Type 0} {c : CallRecords} → (short' → short)

@@ -1,16 +1,9 @@
 -- What a thread state becomes while its worker works, and what the threads returned, state by
 -- state.
 use Rattle.std.proofs.Common.{◌≡◌, ℕ, suc, ◌<◌, List, [], ◌∷◌, IfOk, Ok, Result, length, get_or, map, refl, sym, ap, ◌∙◌, subst, arith}
-use Rattle.std.specs.declared.alloc.AllocError.{AllocError}
-use Rattle.std.proofs.lemmas.List.{get_or-map, length-map}
-use Rattle.xbar_moves.specs.declared.kind.Kind.{Kind}
-use Rattle.xbar_fabric.specs.Views.{DeskView, FabricView}
-use Rattle.xbar_markers.specs.ThreadStates.{HasWorkedOn, HaveWorkedOn, IsThreadState, KeepShares, KeepsShare, desk_at}
-use Rattle.xbar_markers.specs.Shares.{HasServed, HasTickets, MayUse}
-use Rattle.xbar_markers.specs.Work.{IsReady}
-use Rattle.xbar_markers.specs.Shares.{Queues}
-use Rattle.xbar_markers.specs.ThreadStates.{ThreadState}
-use Rattle.xbar_markers.specs.Shares.{Share}
+use Rattle.{std.{specs.declared.alloc.AllocError.AllocError, proofs.lemmas.List.{get_or-map, length-map}}, xbar_moves.specs.declared.kind.Kind.Kind}
+use Rattle.{xbar_fabric.specs.Views.{DeskView, FabricView}, xbar_markers.specs.ThreadStates.{HasWorkedOn, HaveWorkedOn, IsThreadState, KeepShares, KeepsShare}}
+use Rattle.xbar_markers.specs.{ThreadStates.{desk_at, ThreadState}, Shares.{HasServed, HasTickets, MayUse, Queues, Share}, Work.IsReady}
 
 -- with the tickets of before a share may still use the queues
 still_may : (queues : Queues) (share after : Share) → HasTickets share after → MayUse share queues

@@ -1,14 +1,7 @@
 -- What taking a task says of a share.
 use Rattle.std.proofs.Common.{◌≡◌, ◌∙◌, Option, Some, None, IfNone, IfSome, sym, ap, subst}
-use Rattle.fair_queue.specs.Tickets.{TicketView, with_taken}
-use Rattle.xbar_fabric.specs.Views.{DeskView}
-use Rattle.xbar_markers.specs.Calls.{HasDialTone}
-use Rattle.xbar_markers.specs.Shares.{HasServed}
-use Rattle.xbar_markers.specs.Shares.{Share}
-use Rattle.xbar_markers.specs.Tasks.{Task}
-use Rattle.xbar_markers.specs.Tasks.{IsSound}
-use Rattle.xbar_markers.proofs.Serving.{served_none}
-use Rattle.xbar_markers.proofs.ServedSteps.{HasTakenTask}
+use Rattle.{fair_queue.specs.Tickets.{TicketView, with_taken}, xbar_fabric.specs.Views.DeskView}
+use Rattle.xbar_markers.{specs.{Calls.HasDialTone, Shares.{HasServed, Share}, Tasks.{Task, IsSound}}, proofs.{Serving.served_none, ServedSteps.HasTakenTask}}
 
 -- there was none
 pub none_taken : (d : DeskView) (share after : Share) (ticket : TicketView Task)

@@ -1,15 +1,8 @@
 -- Thread states that are opened and gathered one by one.
-use Rattle.std.proofs.Common.{◌≡◌, ℕ, ◌+◌, ◌-◌, List, [], ◌∷◌, ◌++◌, length, map, refl, sym, ap, ◌∙◌, subst, arith}
-use Rattle.std.proofs.lemmas.List.{append_assoc, append-nil, map-append}
-use Rattle.fair_queue.specs.Tickets.{IsUsable, TicketView, new_ticket, with_fewer_parts}
-use Rattle.xbar_fabric.specs.Views.{DeskView, FabricView}
-use Rattle.xbar_markers.specs.ThreadStates.{AreStatesOf, IsThreadState, desk_at}
-use Rattle.xbar_markers.specs.Shares.{IsShareOf, MayUse}
-use Rattle.xbar_markers.specs.Work.{IsReady}
-use Rattle.xbar_markers.specs.Shares.{Queues}
-use Rattle.xbar_markers.specs.ThreadStates.{ThreadState}
-use Rattle.xbar_markers.specs.Shares.{Share}
-use Rattle.xbar_markers.proofs.Joined.{IsJoined, joined_share}
+use Rattle.std.proofs.Common.{◌≡◌, ℕ, ◌+◌, ◌-◌, List, [], ◌∷◌, ◌++◌, length, map, refl, sym, ap, ◌∙◌, subst, arith, append_assoc, append-nil}
+use Rattle.{std.proofs.lemmas.List.map-append, fair_queue.specs.Tickets.{IsUsable, TicketView, new_ticket, with_fewer_parts}}
+use Rattle.{xbar_fabric.specs.Views.{DeskView, FabricView}, xbar_markers.specs.ThreadStates.{AreStatesOf, IsThreadState, desk_at, ThreadState}}
+use Rattle.xbar_markers.{specs.{Shares.{IsShareOf, MayUse, Queues, Share}, Work.IsReady}, proofs.Joined.{IsJoined, joined_share}}
 
 module _ {G : Type 0} where
   -- thread states, and one more

@@ -1,8 +1,7 @@
 -- Whether a job ended with dial tone.
 use Rattle.std.proofs.Common.{◌≡◌, ℕ, false, refl}
-use Rattle.xbar_equip.specs.declared.path.Path.{Path}
-use Rattle.xbar_office.specs.declared.reply.End.{End}
-use Rattle.xbar_office.specs.declared.reply.End.TheVariants.{CalledBusy, Connected, DialTone, LineBusy, NoCall, NoPath, NoRegister, RegistersBusy, Released, Trouble, TrunksBusy, VacantCode, VacantNumber}
+use Rattle.{xbar_equip.specs.declared.path.Path.Path, xbar_office.specs.declared.reply.End.{End, TheVariants.{CalledBusy, Connected, DialTone, LineBusy}}}
+use Rattle.xbar_office.specs.declared.reply.End.TheVariants.{NoCall, NoPath, NoRegister, RegistersBusy, Released, Trouble, TrunksBusy, VacantCode, VacantNumber}
 use Rattle.xbar_markers.specs.Calls.{is_dial_tone}
 
 pub not_tone : (end : End) → ((path : Path) (trial : ℕ) → end ≡ DialTone path trial → ⊥)

@@ -1,11 +1,7 @@
 -- records of which each turn is there once, sorted by turn, are those of the turns in their order
-use Rattle.std.proofs.Common.{◌≡◌, ℕ, zero, suc, ◌+◌, ◌<◌, ◌≤◌, List, [], ◌∷◌, sym, refl, ap, arith, length}
-use Rattle.std.proofs.lemmas.List.Sums.{sum_by-cons}
-use Rattle.std.specs.Prelude.{Contains, slice_index_or}
-use Rattle.std.specs.List.Sorted.{IsNonDecreasingBy}
-use Rattle.fair_queue.specs.Items.{SameItems}
-use Rattle.xbar_office.specs.Legal.{HaveTurns}
-use Rattle.xbar_office.specs.declared.reply.Record.{Record}
+use Rattle.std.proofs.Common.{◌≡◌, ℕ, zero, suc, ◌+◌, ◌<◌, ◌≤◌, List, [], ◌∷◌, sym, refl, ap, arith, length, Contains, slice_index_or}
+use Rattle.{std.{proofs.lemmas.List.Sums.sum_by-cons, specs.List.Sorted.IsNonDecreasingBy}, fair_queue.specs.Items.SameItems}
+use Rattle.xbar_office.specs.{Legal.HaveTurns, declared.reply.Record.Record}
 
 module _ (contained : (xs ys : List Record) (x : Record) → SameItems xs ys → Contains xs x → Contains ys x) where
   abbrev Sorted : List Record → Type 0

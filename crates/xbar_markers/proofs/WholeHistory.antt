@@ -1,16 +1,10 @@
 -- if all desks of a fabric began with no records, the records by which they have grown are its
 -- history
 use Rattle.std.proofs.Common.{◌≡◌, ℕ, zero, suc, ◌+◌, ◌<◌, Bool, true, false, List, [], ◌∷◌, inl, inr, sym, refl, ap, ◌∙◌, subst, arith, length, sum_by, All}
-use Rattle.std.proofs.Math.Dec.{eqb-suc-suc, eqb-suc-zero, eqb-zero-suc}
-use Rattle.std.proofs.lemmas.List.Sums.{sum_by-append, sum_by-cons}
-use Rattle.std.specs.Prelude.{◌==◌, IfSome, if◌then◌else◌, slice_get}
-use Rattle.turns.specs.Among.{IsIn}
-use Rattle.turns.specs.World.{Idle}
-use Rattle.fair_queue.specs.Items.{SameItems}
-use Rattle.xbar_office.specs.declared.reply.Record.{Record}
-use Rattle.xbar_moves.specs.Kinds.{takes}
-use Rattle.xbar_moves.specs.declared.kind.Kind.{Kind}
-use Rattle.xbar_fabric.specs.Views.{DeskView, FabricView, new_desks, own}
+use Rattle.std.proofs.Common.{◌==◌, IfSome, if◌then◌else◌, slice_get}
+use Rattle.std.proofs.{Math.Dec.{eqb-suc-suc, eqb-suc-zero, eqb-zero-suc}, lemmas.List.Sums.{sum_by-append, sum_by-cons}}
+use Rattle.{turns.specs.{Among.IsIn, World.Idle}, fair_queue.specs.Items.SameItems, xbar_office.specs.declared.reply.Record.Record}
+use Rattle.{xbar_moves.specs.{Kinds.takes, declared.kind.Kind.Kind}, xbar_fabric.specs.Views.{DeskView, FabricView, new_desks, own}}
 use Rattle.xbar_markers.specs.Work.{WorkerHasWorked, HaveWorked}
 
 -- whether n is k or more
@@ -83,13 +77,16 @@ module _ (fabric : FabricView) (history : List Record) where
       subst (λ (n : ℕ). IfSome (slice_get desks j) (λ desk. own n history ≡ own n desk.seen)) (omega arith) (theirs (suc j))
 
   -- a desk that began with none has just these
-  here_is : (k : ℕ) (kind : Kind) (d : DeskView) (its : List Record) → WorkerHasWorked (record { table = fabric.table; plan = fabric.plan; marker = k; kind = kind; work = Idle; seen = [] }) d its → own (k + 0) history ≡ own (k + 0) d.seen → own (k + 0) history ≡ its
+  here_is : (k : ℕ) (kind : Kind) (d : DeskView) (its : List Record)
+      → WorkerHasWorked (record { table = fabric.table; plan = fabric.plan; marker = k; kind = kind; work = Idle; seen = [] }) d its
+      → own (k + 0) history ≡ own (k + 0) d.seen → own (k + 0) history ≡ its
   here_is k kind d its worked theirs =
       let marker : d.marker ≡ k + 0 = ap (λ (x : DeskView). x.marker) worked.same ∙ omega arith in
       theirs ∙ sym (ap (λ (n : ℕ). own n d.seen) marker) ∙ worked.mine_are
 
   module _ (h : Record → ℕ) where
-    weighs : (k : ℕ) (kinds : List Kind) (desks : List DeskView) (records : List Record) → HaveWorked (new_desks fabric k kinds) desks records → AreTheirs k desks
+    weighs : (k : ℕ) (kinds : List Kind) (desks : List DeskView) (records : List Record) → HaveWorked (new_desks fabric k kinds) desks records
+        → AreTheirs k desks
         → ((r : Record) → IsIn r history → r.marker < k + length desks) → sum_by h records ≡ sum_by (from k h) history
     weighs k [] [] records worked theirs all =
         let none = none_left h k history (λ r within. let below = all r within in omega (arith, below)) in
@@ -101,7 +98,8 @@ module _ (fabric : FabricView) (history : List Record) where
         let its = worked.0 in
         let both = worked.2 h in
         let here : own k history ≡ its = subst (λ (n : ℕ). own n history ≡ its) (omega arith) (here_is k kind d its worked.3 (theirs 0)) in
-        let others = weighs (suc k) kinds desks worked.1 worked.4 (next_theirs k d desks theirs) (λ r within. let below = all r within in omega (arith, below)) in
+        let others =
+        weighs (suc k) kinds desks worked.1 worked.4 (next_theirs k d desks theirs) (λ r within. let below = all r within in omega (arith, below)) in
         let one = ap (sum_by h) here in
         omega (arith, both, others, one, parted h k history, sum_by-append h its worked.1)
 
@@ -114,12 +112,15 @@ module _ (fabric : FabricView) (history : List Record) where
   from_first desks theirs j =
       subst (λ (n : ℕ). IfSome (slice_get desks j) (λ desk. own n history ≡ own n desk.seen)) (omega arith) (theirs j)
 
-  pub is_history : (kinds : List Kind) (desks : List DeskView) (records : List Record) → HaveWorked (new_desks fabric 0 kinds) desks records → AreAllTheirs desks
+  pub is_history : (kinds : List Kind) (desks : List DeskView) (records : List Record) → HaveWorked (new_desks fabric 0 kinds) desks records
+      → AreAllTheirs desks
       → ((r : Record) → IsIn r history → r.marker < length desks) → SameItems history records
   is_history kinds desks records worked theirs all h =
-      sym (weighs fabric history h 0 kinds desks records worked (from_first desks theirs) (λ r within. let below = all r within in omega (arith, below)) ∙ all_of h history)
+      sym (weighs fabric history h 0 kinds desks records worked (from_first desks theirs) (λ r within. let below = all r within in omega (arith, below))
+      ∙ all_of h history)
 
-  taken_from : (k : ℕ) (kinds : List Kind) (desks : List DeskView) (records : List Record) → HaveWorked (new_desks fabric k kinds) desks records → AreTheirs fabric history k desks
+  taken_from : (k : ℕ) (kinds : List Kind) (desks : List DeskView) (records : List Record) → HaveWorked (new_desks fabric k kinds) desks records
+      → AreTheirs fabric history k desks
       → (j : ℕ) → IfSome (slice_get kinds j) (λ kind. All (λ r. takes kind r.job ≡ true) (own (k + j) history))
   taken_from k [] desks records worked theirs j = tt
   taken_from k (kind ∷ kinds) [] records worked theirs j = absurd worked

@@ -1,25 +1,12 @@
 -- a run from the opening of a fabric to its shutting: its records are one legal history of just these calls
 use Rattle.std.proofs.Common.{◌≡◌, ℕ, zero, suc, ◌<◌, ◌≤◌, ◌^◌, List, [], ◌∷◌, All, map, length, length-append, sym, refl, ap, ◌∙◌, subst, arith, get_or}
-use Rattle.std.proofs.lemmas.Option.{slice_get-get_or}
-use Rattle.std.specs.List.Sorted.{IsNonDecreasingBy}
-use Rattle.std.specs.Prelude.{Contains, IfSome, Option, Some, None, slice_get, ⊤}
-use Rattle.desks.specs.Parts.{Begins}
-use Rattle.fair_queue.specs.Items.{SameItems}
-use Rattle.xbar_plan.specs.Tables.{Tables}
-use Rattle.xbar_office.specs.Legal.{IsLegal, after}
-use Rattle.xbar_office.specs.declared.reply.Record.{Record}
-use Rattle.xbar_jobs.specs.Office.{ShowsOffice}
-use Rattle.xbar_moves.specs.declared.kind.Kind.{Kind}
-use Rattle.xbar_fabric.specs.Meetings.{AreWordsAfter, FabricHasClosed}
-use Rattle.xbar_fabric.specs.Views.{DeskView, FabricView, new_desks, own}
-use Rattle.xbar_markers.specs.Calls.{AreServed}
-use Rattle.xbar_markers.specs.Outcomes.{AreTaken}
-use Rattle.xbar_markers.specs.DesksByKind.{AreDesksByKind, kinds_of}
-use Rattle.xbar_markers.specs.Work.{AreShort, HaveWorked, IsReady}
-use Rattle.xbar_markers.specs.declared.call.Call.{Call}
-use Rattle.xbar_markers.proofs.Serving.{all_weaker_served}
-use Rattle.xbar_markers.proofs.TurnOrder.{in_turn_order}
-use Rattle.xbar_markers.proofs.WholeHistory.{are_taken, is_history}
+use Rattle.std.proofs.Common.{Contains, IfSome, Option, Some, None, slice_get}
+use Rattle.{std.{proofs.lemmas.Option.slice_get-get_or, specs.{List.Sorted.IsNonDecreasingBy, Prelude.⊤}}, desks.specs.Parts.Begins}
+use Rattle.{fair_queue.specs.Items.SameItems, xbar_plan.specs.Tables.Tables, xbar_office.specs.{Legal.{IsLegal, after}, declared.reply.Record.Record}}
+use Rattle.{xbar_jobs.specs.Office.ShowsOffice, xbar_moves.specs.declared.kind.Kind.Kind}
+use Rattle.{xbar_fabric.specs.{Meetings.{AreWordsAfter, FabricHasClosed}, Views.{DeskView, FabricView, new_desks, own}}, xbar_markers.specs.Calls.AreServed}
+use Rattle.xbar_markers.specs.{Outcomes.AreTaken, DesksByKind.{AreDesksByKind, kinds_of}, Work.{AreShort, HaveWorked, IsReady}, declared.call.Call.Call}
+use Rattle.xbar_markers.proofs.{Serving.all_weaker_served, TurnOrder.in_turn_order, WholeHistory.{are_taken, is_history}}
 
 module _ (fabric : FabricView) where
   -- new desks are of the kinds that were asked for, and idle
@@ -32,7 +19,8 @@ module _ (fabric : FabricView) where
   ready_new k (kind ∷ kinds) zero d below = record { desk_of = record { table_is = refl; plan_is = refl }; idle = refl }
   ready_new k (kind ∷ kinds) (suc i) d below = ready_new (suc k) kinds i d (omega (arith, below))
 
-  pub new_by_kind : (dialling completing : ℕ) (desks : List DeskView) (kinds : List Kind) → desks ≡ new_desks fabric 0 kinds → kinds ≡ kinds_of dialling completing → 0 < dialling → 0 < completing → AreDesksByKind desks fabric
+  pub new_by_kind : (dialling completing : ℕ) (desks : List DeskView) (kinds : List Kind) → desks ≡ new_desks fabric 0 kinds
+      → kinds ≡ kinds_of dialling completing → 0 < dialling → 0 < completing → AreDesksByKind desks fabric
   new_by_kind dialling completing desks kinds are of some_dial some_complete = record {
     dialling = dialling;
     completing = completing;
@@ -43,7 +31,8 @@ module _ (fabric : FabricView) where
   }
 
   -- as many come back
-  as_many : (k : ℕ) (kinds : List Kind) (desks : List DeskView) (records : List Record) → HaveWorked (new_desks fabric k kinds) desks records → length desks ≡ length kinds
+  as_many : (k : ℕ) (kinds : List Kind) (desks : List DeskView) (records : List Record) → HaveWorked (new_desks fabric k kinds) desks records
+      → length desks ≡ length kinds
   as_many k [] [] records worked = refl
   as_many k [] (d ∷ desks) records worked = absurd worked
   as_many k (kind ∷ kinds) [] records worked = absurd worked
@@ -92,7 +81,8 @@ module _ (fabric : FabricView) (plan : Tables) (kinds : List Kind) (befores desk
 
   short_at : (i : ℕ) (d : DeskView) → i < length desks → slice_get desks i ≡ Some (get_or desks i d) → length (get_or desks i d).seen < 2 ^ 64
   short_at i d below there =
-      let begins = subst (λ (o : Option DeskView). IfSome o (λ desk. Begins desk.seen closed.records × (own i closed.records ≡ own i desk.seen))) there (closed.each i) in
+      let begins =
+      subst (λ (o : Option DeskView). IfSome o (λ desk. Begins desk.seen closed.records × (own i closed.records ≡ own i desk.seen))) there (closed.each i) in
       let long = begins_length (get_or desks i d).seen closed.records begins.0 in
       let short = few_closed in
       omega (arith, long, short)

@@ -1,18 +1,9 @@
 -- once nothing is left in the queues, each call was served once
-use Rattle.std.proofs.Common.{◌≡◌, List, [], ◌∷◌, ◌++◌, ap, ◌∙◌, arith, map, flat_map, sum_by}
-use Rattle.std.proofs.lemmas.List.{append-nil, map-append}
-use Rattle.std.proofs.lemmas.Grind.{flat_map-append}
-use Rattle.std.proofs.lemmas.List.Sums.{sum_by-append}
-use Rattle.fair_queue.specs.Items.{SameItems}
-use Rattle.fair_queue.proofs.Weights.{SameItems-flat_map, SameItems-map}
-use Rattle.xbar_office.specs.declared.reply.Record.{Record}
-use Rattle.xbar_fabric.specs.Views.{DeskView}
-use Rattle.xbar_markers.specs.Calls.{AreServed, records_of}
-use Rattle.xbar_markers.specs.Shares.{IsShareOf, in_task, in_tasks, out_of}
-use Rattle.xbar_markers.specs.Work.{AreShort, HaveWorked}
-use Rattle.xbar_markers.specs.declared.call.Call.{Call}
-use Rattle.xbar_markers.specs.declared.call_records.CallRecords.{CallRecords}
-use Rattle.xbar_markers.specs.Shares.{Share}
+use Rattle.std.proofs.Common.{◌≡◌, List, [], ◌∷◌, ◌++◌, ap, ◌∙◌, arith, map, flat_map, sum_by, append-nil}
+use Rattle.{std.proofs.lemmas.{List.{map-append, Sums.sum_by-append}, Grind.flat_map-append}, fair_queue.specs.Items.SameItems}
+use Rattle.{fair_queue.proofs.Weights.{SameItems-flat_map, SameItems-map}, xbar_office.specs.declared.reply.Record.Record, xbar_fabric.specs.Views.DeskView}
+use Rattle.xbar_markers.specs.{Calls.{AreServed, records_of}, Shares.{IsShareOf, in_task, in_tasks, out_of, Share}, Work.{AreShort, HaveWorked}}
+use Rattle.xbar_markers.specs.declared.{call.Call.Call, call_records.CallRecords.CallRecords}
 
 abbrev call_of : CallRecords → Call
 call_of c = c.call

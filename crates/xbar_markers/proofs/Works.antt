@@ -1,15 +1,9 @@
 -- What desks have worked: a job more, other items of the same weights, more desks.
-use Rattle.std.proofs.Common.{◌≡◌, ◌∙◌, ℕ, zero, suc, ◌<◌, ◌^◌, List, [], ◌∷◌, ◌++◌, All, Some, None, true, slice_get, slice_set, length, append-nil, append_assoc, length-append, sym, refl, ap, subst, arith, sum_by}
-use Rattle.std.proofs.lemmas.List.Sums.{sum_by-append}
-use Rattle.std.proofs.lemmas.List.Elements.{All-append, All-cons, All-head, All-nil, All-tail}
-use Rattle.fair_queue.specs.Items.{SameItems}
-use Rattle.desks.specs.Parts.{Begins}
-use Rattle.xbar_office.specs.declared.job.Job.{Job}
-use Rattle.xbar_office.specs.declared.reply.Record.{Record}
-use Rattle.xbar_moves.specs.Exchange.{is_idle}
-use Rattle.xbar_moves.specs.Kinds.{takes}
-use Rattle.xbar_moves.specs.declared.kind.Kind.{Kind}
-use Rattle.xbar_fabric.specs.Views.{DeskView, FabricView, mine}
+use Rattle.std.proofs.Common.{◌≡◌, ◌∙◌, ℕ, zero, suc, ◌<◌, ◌^◌, List, [], ◌∷◌, ◌++◌, All, Some, None, true, slice_get, slice_set, length, append-nil}
+use Rattle.std.proofs.Common.{append_assoc, length-append, sym, refl, ap, subst, arith, sum_by}
+use Rattle.{std.proofs.lemmas.List.{Sums.sum_by-append, Elements.{All-append, All-cons, All-head, All-nil, All-tail}}, fair_queue.specs.Items.SameItems}
+use Rattle.{desks.specs.Parts.Begins, xbar_office.specs.declared.{job.Job.Job, reply.Record.Record}}
+use Rattle.{xbar_moves.specs.{Exchange.is_idle, Kinds.takes, declared.kind.Kind.Kind}, xbar_fabric.specs.Views.{DeskView, FabricView, mine}}
 use Rattle.xbar_markers.specs.Work.{AreShort, HasDone, WorkerHasWorked, HaveWorked, IsReady}
 
 -- the record's job is one that this kind takes

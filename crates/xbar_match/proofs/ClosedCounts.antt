@@ -1,6 +1,5 @@
 use Rattle.std.proofs.Common.{◌≡◌, ◌≢◌, ℕ, zero, suc, ◌+◌, ◌<◌, ◌==◌, if◌then◌else◌, inl, inr, refl, sym, ◌∙◌, ap, ap₂, arith, add-one, eq-eqb, ne_eqb}
-use Rattle.std.proofs.lemmas.Bool.{cases_eq}
-use Rattle.xbar_match.specs.Counts.{sum_below}
+use Rattle.{std.proofs.lemmas.Bool.cases_eq, xbar_match.specs.Counts.sum_below}
 
 -- a sum over no numbers, and with one number more
 pub sum_below-zero : (f : ℕ → ℕ) → sum_below f 0 ≡ 0
@@ -37,7 +36,8 @@ sum_below-none f (suc n) none =
     sum_below-suc f n ∙ omega (arith, rest, last)
 
 -- if the terms differ only at one number, the sums differ by as much
-pub sum_below-change : (f g : ℕ → ℕ) (k more count : ℕ) → k < count → f k ≡ g k + more → ((j : ℕ) → j < count → j ≢ k → f j ≡ g j) → sum_below f count ≡ sum_below g count + more
+pub sum_below-change : (f g : ℕ → ℕ) (k more count : ℕ) → k < count → f k ≡ g k + more → ((j : ℕ) → j < count → j ≢ k → f j ≡ g j)
+    → sum_below f count ≡ sum_below g count + more
 sum_below-change f g k more zero within here agree = absurd (omega arith)
 sum_below-change f g k more (suc n) within here agree = elim (cases_eq k n) [
   | inl last ↦

@@ -1,16 +1,10 @@
 -- the word of a switch, and what the word shows, after one crosspoint is closed or opened
-use Rattle.std.proofs.Common.{◌≡◌, ◌≢◌, ℕ, ◌+◌, ◌-◌, ◌/◌, ◌^◌, ◌<◌, ◌≤◌, ◌⊎◌, List, length, get_or, set, inl, inr, refl, sym, ◌∙◌, ap, subst, arith, lit<, get_or-set_same, get_or-set_other, length-set}
-use Rattle.std.proofs.lemmas.Bool.{cases_eq}
-use Rattle.std.proofs.Math.Nat.{div-lt_iff_lt-mul}
-use Rattle.xbar_equip.specs.declared.crosspoint.Crosspoint.{Crosspoint}
-use Rattle.xbar_switch.specs.Shape.{places}
-use Rattle.xbar_switch.specs.declared.shape.Shape.{Shape}
-use Rattle.xbar_switch.specs.declared.shape.Shape.TheVariants.{Line, Other}
-use Rattle.xbar_switch.specs.Field.{field_of, above_fields}
+use Rattle.std.proofs.Common.{◌≡◌, ◌≢◌, ℕ, ◌+◌, ◌-◌, ◌/◌, ◌^◌, ◌<◌, ◌≤◌, ◌⊎◌, List, length, get_or, set, inl, inr, refl, sym, ◌∙◌, ap, subst, arith, lit<}
+use Rattle.std.proofs.Common.{get_or-set_same, get_or-set_other, length-set, div-lt_iff_lt-mul}
+use Rattle.{std.proofs.lemmas.Bool.cases_eq, xbar_equip.specs.declared.crosspoint.Crosspoint.Crosspoint}
+use Rattle.xbar_switch.specs.{Shape.places, declared.shape.Shape.{Shape, TheVariants.{Line, Other}}, Field.{field_of, above_fields}}
 use Rattle.xbar_switch.proofs.Fields.{field_of-close_same, field_of-close_other, above_fields-close, field_of-open_same, field_of-open_other, above_fields-open}
-use Rattle.xbar_match.specs.Switches.{shape_at}
-use Rattle.xbar_match.specs.Shows.{WordShows}
-use Rattle.xbar_match.specs.Effects.{IsCrosspoint, closed_word, opened_word, close_at, open_at}
+use Rattle.xbar_match.specs.{Switches.shape_at, Shows.WordShows, Effects.{IsCrosspoint, closed_word, opened_word, close_at, open_at}}
 
 -- a word with no bit above its fields is below 2 ^ 64
 pub no_more-lt : (shape : Shape) (word : ℕ) → above_fields shape word ≡ 0 → word < 2 ^ 64
@@ -23,7 +17,8 @@ no_more-lt Other word none =
     omega (arith, (div-lt_iff_lt-mul {k = 2 ^ 40} {x = word} {y = 1} (lit< tt)).0 below)
 
 -- what shows one set of closed crosspoints shows any other that has the same
-pub same-shows : (P Q : Crosspoint → Type 0) (n word : ℕ) → ((c : Crosspoint) → P c → Q c) → ((c : Crosspoint) → Q c → P c) → WordShows P n word → WordShows Q n word
+pub same-shows : (P Q : Crosspoint → Type 0) (n word : ℕ) → ((c : Crosspoint) → P c → Q c) → ((c : Crosspoint) → Q c → P c) → WordShows P n word
+    → WordShows Q n word
 same-shows P Q n word there back shows = record {
   closed = λ c is at. shows.closed c (back c is) at;
   others = λ v in_range. elim (shows.others v in_range) [ inl e ↦ inl e | inr is ↦ inr (there _ is) ];
@@ -42,17 +37,20 @@ abbrev pub Without : (Crosspoint → Type 0) → Crosspoint → Crosspoint → T
 Without P c d = P d × (d ≢ c)
 
 -- a field at which no crosspoint is closed is 0
-pub free-open : (P : Crosspoint → Type 0) (c : Crosspoint) (word : ℕ) → c.field < 10 → IsFree P c → WordShows P c.word word → field_of (shape_at c.word) word c.field ≡ 0
+pub free-open : (P : Crosspoint → Type 0) (c : Crosspoint) (word : ℕ) → c.field < 10 → IsFree P c → WordShows P c.word word
+    → field_of (shape_at c.word) word c.field ≡ 0
 free-open P c word in_range free shows = elim (shows.others c.field in_range) [ inl e ↦ e | inr is ↦ absurd (free.free _ is refl refl) ]
 
 -- closing a crosspoint at an open field
-pub close-field : (c : Crosspoint) (word : ℕ) → IsCrosspoint c → field_of (shape_at c.word) word c.field ≡ 0 → field_of (shape_at c.word) (closed_word c word) c.field ≡ c.value
+pub close-field : (c : Crosspoint) (word : ℕ) → IsCrosspoint c → field_of (shape_at c.word) word c.field ≡ 0
+    → field_of (shape_at c.word) (closed_word c word) c.field ≡ c.value
 close-field c word is was_open =
     let place : c.value - 1 < places (shape_at c.word) = omega (arith, is.closed, is.place) in
     let back : 1 + (c.value - 1) ≡ c.value = omega (arith, is.closed) in
     field_of-close_same (shape_at c.word) word c.field (c.value - 1) place was_open ∙ back
 
-pub close-others : (c : Crosspoint) (word v : ℕ) → IsCrosspoint c → v ≢ c.field → field_of (shape_at c.word) (closed_word c word) v ≡ field_of (shape_at c.word) word v
+pub close-others : (c : Crosspoint) (word v : ℕ) → IsCrosspoint c → v ≢ c.field
+    → field_of (shape_at c.word) (closed_word c word) v ≡ field_of (shape_at c.word) word v
 close-others c word v is differs =
     let place : c.value - 1 < places (shape_at c.word) = omega (arith, is.closed, is.place) in
     field_of-close_other (shape_at c.word) word c.field (c.value - 1) v place differs
@@ -63,7 +61,8 @@ close-above c word is =
     above_fields-close (shape_at c.word) word c.field (c.value - 1) is.field place
 
 -- the word of its switch after a crosspoint is closed at a free field
-pub close-shows : (P : Crosspoint → Type 0) (c : Crosspoint) (word : ℕ) → IsCrosspoint c → IsFree P c → WordShows P c.word word → WordShows (With P c) c.word (closed_word c word)
+pub close-shows : (P : Crosspoint → Type 0) (c : Crosspoint) (word : ℕ) → IsCrosspoint c → IsFree P c → WordShows P c.word word
+    → WordShows (With P c) c.word (closed_word c word)
 close-shows P c word is free shows = record { closed = closed; others = others; above = close-above c word is ∙ shows.above } where
   here : field_of (shape_at c.word) (closed_word c word) c.field ≡ c.value
   here = close-field c word is (free-open P c word is.field free shows)
@@ -75,7 +74,9 @@ close-shows P c word is free shows = record { closed = closed; others = others; 
     | inr differs ↦ close-others c word d.field is differs ∙ shows.closed d p at
   ]
 
-  others : (v : ℕ) → v < 10 → (field_of (shape_at c.word) (closed_word c word) v ≡ 0) ⊎ With P c (record { word = c.word; field = v; value = field_of (shape_at c.word) (closed_word c word) v })
+  others : (v : ℕ) → v < 10
+      → (field_of (shape_at c.word) (closed_word c word) v ≡ 0)
+      ⊎ With P c (record { word = c.word; field = v; value = field_of (shape_at c.word) (closed_word c word) v })
   others v in_range = elim (cases_eq v c.field) [
     | inl same ↦
         let value : field_of (shape_at c.word) (closed_word c word) v ≡ c.value = ap (λ x. field_of (shape_at c.word) (closed_word c word) x) same ∙ here in
@@ -89,7 +90,8 @@ close-shows P c word is free shows = record { closed = closed; others = others; 
   ]
 
 -- the word of its switch after a closed crosspoint is opened
-pub open-shows : (P : Crosspoint → Type 0) (c : Crosspoint) (word : ℕ) → ((d : Crosspoint) → P d → d.field < 10) → P c → WordShows P c.word word → WordShows (Without P c) c.word (opened_word c word)
+pub open-shows : (P : Crosspoint → Type 0) (c : Crosspoint) (word : ℕ) → ((d : Crosspoint) → P d → d.field < 10) → P c → WordShows P c.word word
+    → WordShows (Without P c) c.word (opened_word c word)
 open-shows P c word ranges is_closed shows = record { closed = closed; others = others; above = above } where
   fits : word < 2 ^ 64
   fits = no_more-lt (shape_at c.word) word shows.above
@@ -111,22 +113,28 @@ open-shows P c word ranges is_closed shows = record { closed = closed; others = 
     | inr differs ↦ keeps d.field (ranges d p.0) differs ∙ shows.closed d p.0 at
   ]
 
-  others : (v : ℕ) → v < 10 → (field_of (shape_at c.word) (opened_word c word) v ≡ 0) ⊎ Without P c (record { word = c.word; field = v; value = field_of (shape_at c.word) (opened_word c word) v })
+  others : (v : ℕ) → v < 10
+      → (field_of (shape_at c.word) (opened_word c word) v ≡ 0)
+      ⊎ Without P c (record { word = c.word; field = v; value = field_of (shape_at c.word) (opened_word c word) v })
   others v in_range = elim (cases_eq v c.field) [
     | inl same ↦ inl (ap (λ x. field_of (shape_at c.word) (opened_word c word) x) same ∙ field_of-open_same (shape_at c.word) word c.field (ranges c is_closed))
     | inr differs ↦
         elim (shows.others v in_range) [
           | inl zero ↦ inl (keeps v in_range differs ∙ zero)
-          | inr p ↦ inr (subst (λ (x : ℕ). P (record { word = c.word; field = v; value = x })) (sym (keeps v in_range differs)) p, λ e. differs (ap (λ (x : Crosspoint). x.field) e))
+          | inr p ↦ inr (
+            subst (λ (x : ℕ). P (record { word = c.word; field = v; value = x })) (sym (keeps v in_range differs)) p,
+            λ e. differs (ap (λ (x : Crosspoint). x.field) e),
+          )
         ]
   ]
 
 -- the word of another switch shows the same, with a crosspoint or without it
 pub elsewhere-with : (P : Crosspoint → Type 0) (c : Crosspoint) (n word : ℕ) → n ≢ c.word → WordShows P n word → WordShows (With P c) n word
-elsewhere-with P c n word differs shows = record { closed = closed; others = λ v in_range. elim (shows.others v in_range) [ inl e ↦ inl e | inr p ↦ inr (inr p) ]; above = shows.above } where
-  closed : (d : Crosspoint) → With P c d → d.word ≡ n → field_of (shape_at n) word d.field ≡ d.value
-  closed d (inl e) at = absurd (differs (sym at ∙ ap (λ (x : Crosspoint). x.word) e))
-  closed d (inr p) at = shows.closed d p at
+elsewhere-with P c n word differs shows =
+    record { closed = closed; others = λ v in_range. elim (shows.others v in_range) [ inl e ↦ inl e | inr p ↦ inr (inr p) ]; above = shows.above } where
+      closed : (d : Crosspoint) → With P c d → d.word ≡ n → field_of (shape_at n) word d.field ≡ d.value
+      closed d (inl e) at = absurd (differs (sym at ∙ ap (λ (x : Crosspoint). x.word) e))
+      closed d (inr p) at = shows.closed d p at
 
 pub elsewhere-without : (P : Crosspoint → Type 0) (c : Crosspoint) (n word : ℕ) → n ≢ c.word → WordShows P n word → WordShows (Without P c) n word
 elsewhere-without P c n word differs shows = record {
@@ -146,7 +154,8 @@ at_set R words k x n within here there = elim (cases_eq n k) [
   | inr differs ↦ subst (λ (w : ℕ). R n w) (sym (get_or-set_other words k n x 0 differs)) (there differs)
 ]
 
-pub close_at-shows : (words : List ℕ) (P : Crosspoint → Type 0) (c : Crosspoint) → 400 ≤ length words → IsCrosspoint c → IsFree P c → Shows words P → Shows (close_at words c) (With P c)
+pub close_at-shows : (words : List ℕ) (P : Crosspoint → Type 0) (c : Crosspoint) → 400 ≤ length words → IsCrosspoint c → IsFree P c → Shows words P
+    → Shows (close_at words c) (With P c)
 close_at-shows words P c long is free shows = record {
   switch = λ n in_range.
       at_set (λ m w. WordShows (With P c) m w) words c.word (closed_word c (get_or words c.word 0)) n (omega (arith, is.word))
@@ -154,7 +163,8 @@ close_at-shows words P c long is free shows = record {
       (λ differs. elsewhere-with P c n (get_or words n 0) differs (shows.switch n in_range));
 }
 
-pub open_at-shows : (words : List ℕ) (P : Crosspoint → Type 0) (c : Crosspoint) → 400 ≤ length words → c.word < 400 → ((d : Crosspoint) → P d → d.field < 10) → P c → Shows words P → Shows (open_at words c) (Without P c)
+pub open_at-shows : (words : List ℕ) (P : Crosspoint → Type 0) (c : Crosspoint) → 400 ≤ length words → c.word < 400 → ((d : Crosspoint) → P d → d.field < 10)
+    → P c → Shows words P → Shows (open_at words c) (Without P c)
 open_at-shows words P c long within ranges is_closed shows = record {
   switch = λ n in_range.
       at_set (λ m w. WordShows (Without P c) m w) words c.word (opened_word c (get_or words c.word 0)) n (omega arith)

@@ -1,26 +1,14 @@
 -- what closing and opening the four crosspoints of a path does to words that show a set
-use Rattle.std.proofs.Common.{◌≡◌, ◌≢◌, ℕ, ◌<◌, ◌≤◌, ◌⊎◌, ◌&&◌, true, List, length, get_or, inl, inr, refl, sym, ◌∙◌, ap, subst, arith}
-use Rattle.std.proofs.lemmas.Bool.{and_parts, true≢false}
-use Rattle.xbar_equip.specs.Among.{IsIn}
-use Rattle.xbar_equip.specs.Path.{IsPath, line_link, junctor, trunk_link, path_cmp}
-use Rattle.xbar_equip.specs.Paths.{IsSet, AreApart, is_idle, has_link, has_idle_links, with_path, without_path}
-use Rattle.xbar_equip.specs.Crosspoint.{crosspoints, crosspoint_at}
-use Rattle.xbar_equip.specs.Word.{LineSwitch, LineJunctor, TrunkSwitch, TrunkJunctor}
-use Rattle.xbar_equip.specs.declared.path.Path.{Path}
-use Rattle.xbar_equip.specs.declared.crosspoint.Crosspoint.{Crosspoint}
-use Rattle.xbar_equip.specs.Link.{Link}
-use Rattle.xbar_equip.specs.declared.link.LinkKind.TheVariants.{LineLink, Junctor, TrunkLink}
-use Rattle.xbar_equip.proofs.Meeting.{meet}
-use Rattle.xbar_equip.proofs.PathTests.{none-idle}
-use Rattle.std.specs.declared.cmp.Ordering.{Ordering}
-use Rattle.std.specs.declared.cmp.Ordering.TheVariants.{Less, Equal, Greater}
-use Rattle.xbar_equip.proofs.PathOrder.{exact_path, never_before_itself, before_of_after}
-use Rattle.xbar_equip.proofs.PathSets.{with-in, in-with, without-in, in-without}
-use Rattle.xbar_switch.specs.Shape.{places}
-use Rattle.xbar_match.specs.Shows.{AreInRange, IsClosedIn, ShowsPaths}
-use Rattle.xbar_match.specs.Effects.{IsCrosspoint, close_at, open_at, close_path, open_path, EachCloses, EachOpens}
-use Rattle.xbar_match.proofs.SwitchShapes.{shape_at-line_switch, shape_at-line_junctor, shape_at-trunk_switch, shape_at-trunk_junctor}
-use Rattle.xbar_match.proofs.PathCrosspoints.{which, at_line_switch, at_line_junctor, at_trunk_junctor, at_trunk_switch, line_link_at, junctor_at, junctor_back_at, trunk_link_at}
+use Rattle.std.proofs.Common.{◌≡◌, ◌≢◌, ℕ, ◌<◌, ◌≤◌, ◌⊎◌, ◌&&◌, true, List, length, get_or, inl, inr, refl, sym, ◌∙◌, ap, subst, arith, true≢false}
+use Rattle.{std.{proofs.lemmas.Bool.and_parts, specs.declared.cmp.Ordering.{Ordering, TheVariants.{Less, Equal, Greater}}}, xbar_equip.specs.Among.IsIn}
+use Rattle.xbar_equip.specs.{Path.{IsPath, line_link, junctor, trunk_link, path_cmp}, Paths.{IsSet, AreApart, is_idle, has_link, has_idle_links, with_path}}
+use Rattle.xbar_equip.specs.{Paths.without_path, Crosspoint.{crosspoints, crosspoint_at}, Word.{LineSwitch, LineJunctor, TrunkSwitch, TrunkJunctor}}
+use Rattle.xbar_equip.specs.{declared.{path.Path.Path, crosspoint.Crosspoint.Crosspoint, link.LinkKind.TheVariants.{LineLink, Junctor, TrunkLink}}, Link.Link}
+use Rattle.xbar_equip.proofs.{Meeting.meet, PathTests.none-idle, PathOrder.{exact_path, never_before_itself, before_of_after}, PathSets.{with-in, in-with}}
+use Rattle.{xbar_equip.proofs.PathSets.{without-in, in-without}, xbar_switch.specs.Shape.places, xbar_match.specs.Shows.{AreInRange, IsClosedIn, ShowsPaths}}
+use Rattle.xbar_match.{specs.Effects.{IsCrosspoint, close_at, open_at, close_path, open_path, EachCloses, EachOpens}, proofs.SwitchShapes.shape_at-line_switch}
+use Rattle.xbar_match.proofs.{SwitchShapes.{shape_at-line_junctor, shape_at-trunk_switch, shape_at-trunk_junctor}, PathCrosspoints.{which, at_line_switch}}
+use Rattle.xbar_match.proofs.PathCrosspoints.{at_line_junctor, at_trunk_junctor, at_trunk_switch, line_link_at, junctor_at, junctor_back_at, trunk_link_at}
 use Rattle.xbar_match.proofs.OneCrosspoint.{With, Without, IsFree, Shows, free-open, same-shows, close_at-shows, open_at-shows, length-close_at, length-open_at}
 use Rattle.xbar_match.proofs.IdleFields.{has_line_link, has_junctor, has_trunk_link}
 
@@ -120,22 +108,28 @@ idle-free paths path ranges p idle = record {
   line : (d : Crosspoint) → IsClosedIn paths d → d.word ≡ (line_of path).word → d.field ≡ path.channel → ⊥
   line d is at field =
       let there = at_line_switch is.0 d path.line.frame path.line.switch (ranges is.0 is.1) p.line.frame p.line.switch at (which is.0 d is.2) in
-      no_owner paths (line_link path) is.0 first.0 is.1 (has_line_link (line_link path) is.0 (line_link_at is.0 _ _ d.field d.value there ∙ ap (λ v. record { kind = LineLink; frame = path.line.frame; at = path.line.switch; channel = v }) field))
+      no_owner paths (line_link path) is.0 first.0 is.1
+      (has_line_link (line_link path) is.0 (line_link_at is.0 _ _ d.field d.value there
+      ∙ ap (λ v. record { kind = LineLink; frame = path.line.frame; at = path.line.switch; channel = v }) field))
 
   line_junctor : (d : Crosspoint) → IsClosedIn paths d → d.word ≡ (line_junctor_of path).word → d.field ≡ path.place.frame → ⊥
   line_junctor d is at field =
       let there = at_line_junctor is.0 d path.line.frame path.channel (ranges is.0 is.1) p.line.frame p.channel at (which is.0 d is.2) in
-      no_owner paths (junctor path) is.0 first.1 is.1 (has_junctor (junctor path) is.0 (junctor_at is.0 _ _ d.field d.value there ∙ ap (λ v. record { kind = Junctor; frame = path.line.frame; at = v; channel = path.channel }) field))
+      no_owner paths (junctor path) is.0 first.1 is.1 (has_junctor (junctor path) is.0
+      (junctor_at is.0 _ _ d.field d.value there ∙ ap (λ v. record { kind = Junctor; frame = path.line.frame; at = v; channel = path.channel }) field))
 
   trunk_junctor : (d : Crosspoint) → IsClosedIn paths d → d.word ≡ (trunk_junctor_of path).word → d.field ≡ path.line.frame → ⊥
   trunk_junctor d is at field =
       let there = at_trunk_junctor is.0 d path.place.frame path.channel (ranges is.0 is.1) p.place.frame p.channel at (which is.0 d is.2) in
-      no_owner paths (junctor path) is.0 first.1 is.1 (has_junctor (junctor path) is.0 (junctor_back_at is.0 _ _ d.field d.value there ∙ ap (λ v. record { kind = Junctor; frame = v; at = path.place.frame; channel = path.channel }) field))
+      no_owner paths (junctor path) is.0 first.1 is.1 (has_junctor (junctor path) is.0
+      (junctor_back_at is.0 _ _ d.field d.value there ∙ ap (λ v. record { kind = Junctor; frame = v; at = path.place.frame; channel = path.channel }) field))
 
   trunk : (d : Crosspoint) → IsClosedIn paths d → d.word ≡ (trunk_of path).word → d.field ≡ path.channel → ⊥
   trunk d is at field =
       let there = at_trunk_switch is.0 d path.place.frame path.place.switch (ranges is.0 is.1) p.place.frame p.place.switch at (which is.0 d is.2) in
-      no_owner paths (trunk_link path) is.0 links.1 is.1 (has_trunk_link (trunk_link path) is.0 (trunk_link_at is.0 _ _ d.field d.value there ∙ ap (λ v. record { kind = TrunkLink; frame = path.place.frame; at = path.place.switch; channel = v }) field))
+      no_owner paths (trunk_link path) is.0 links.1 is.1
+      (has_trunk_link (trunk_link path) is.0 (trunk_link_at is.0 _ _ d.field d.value there
+      ∙ ap (λ v. record { kind = TrunkLink; frame = path.place.frame; at = path.place.switch; channel = v }) field))
 
 -- a crosspoint in another word leaves the field free
 free-with : (P : Crosspoint → Type 0) (b c : Crosspoint) → (b.word ≡ c.word → ⊥) → IsFree P c → IsFree (With P b) c
@@ -167,15 +161,19 @@ in_turn P path p free =
       line = free.line;
       line_junctor = free-with P c1 c2 apart.line_line_junctor free.line_junctor;
       trunk_junctor = free-with (With P c1) c2 c3 apart.line_junctor_trunk_junctor (free-with P c1 c3 apart.line_trunk_junctor free.trunk_junctor);
-      trunk = free-with (With (With P c1) c2) c3 c4 apart.trunk_junctor_trunk (free-with (With P c1) c2 c4 apart.line_junctor_trunk (free-with P c1 c4 apart.line_trunk free.trunk));
+      trunk =
+          free-with (With (With P c1) c2) c3 c4 apart.trunk_junctor_trunk
+          (free-with (With P c1) c2 c4 apart.line_junctor_trunk (free-with P c1 c4 apart.line_trunk free.trunk));
     }
 
-pub close_four : (words : List ℕ) (path : Path) (P : Crosspoint → Type 0) → 400 ≤ length words → IsPath path → Shows words P → FourFree P path → ClosesFour words path (With4 P path)
+pub close_four : (words : List ℕ) (path : Path) (P : Crosspoint → Type 0) → 400 ≤ length words → IsPath path → Shows words P → FourFree P path
+    → ClosesFour words path (With4 P path)
 unfolding close_path
 close_four words path P long p shows free =
     let turn = in_turn P path p free in
     let c1 = line_of path in let c2 = line_junctor_of path in let c3 = trunk_junctor_of path in let c4 = trunk_of path in
-    let k1 = crosspoint_line path p in let k2 = crosspoint_line_junctor path p in let k3 = crosspoint_trunk_junctor path p in let k4 = crosspoint_trunk path p in
+    let k1 = crosspoint_line path p in let k2 = crosspoint_line_junctor path p in let k3 = crosspoint_trunk_junctor path p in
+    let k4 = crosspoint_trunk path p in
     let words1 = close_at words c1 in let words2 = close_at words1 c2 in let words3 = close_at words2 c3 in
     let long1 : 400 ≤ length words1 = omega (arith, length-close_at words c1) in
     let long2 : 400 ≤ length words2 = omega (arith, length-close_at words1 c2) in
@@ -206,18 +204,26 @@ pub record OpensFour (words : List ℕ) (path : Path) (P : Crosspoint → Type 0
   pub steps : EachOpens words (crosspoints path)
   pub shows : Shows (open_path words path) P
 
-pub open_four : (words : List ℕ) (path : Path) (P : Crosspoint → Type 0) → 400 ≤ length words → IsPath path → ((d : Crosspoint) → P d → d.field < 10) → Shows words P
+pub open_four : (words : List ℕ) (path : Path) (P : Crosspoint → Type 0) → 400 ≤ length words → IsPath path → ((d : Crosspoint) → P d → d.field < 10)
+    → Shows words P
     → P (line_of path) → P (line_junctor_of path) → P (trunk_junctor_of path) → P (trunk_of path)
     → OpensFour words path (Without4 P path)
 unfolding open_path
 open_four words path P long p ranges shows is1 is2' is3' is4' =
     let apart = stand_apart path p in
     let c1 = line_of path in let c2 = line_junctor_of path in let c3 = trunk_junctor_of path in let c4 = trunk_of path in
-    let k1 = crosspoint_line path p in let k2 = crosspoint_line_junctor path p in let k3 = crosspoint_trunk_junctor path p in let k4 = crosspoint_trunk path p in
+    let k1 = crosspoint_line path p in let k2 = crosspoint_line_junctor path p in let k3 = crosspoint_trunk_junctor path p in
+    let k4 = crosspoint_trunk path p in
     let P1 = Without P c1 in let P2 = Without P1 c2 in let P3 = Without P2 c3 in
     let is2 : P1 c2 = (is2', λ e. apart.line_line_junctor (ap (λ (x : Crosspoint). x.word) (sym e))) in
-    let is3 : P2 c3 = ((is3', λ e. apart.line_trunk_junctor (ap (λ (x : Crosspoint). x.word) (sym e))), λ e. apart.line_junctor_trunk_junctor (ap (λ (x : Crosspoint). x.word) (sym e))) in
-    let is4 : P3 c4 = (((is4', λ e. apart.line_trunk (ap (λ (x : Crosspoint). x.word) (sym e))), λ e. apart.line_junctor_trunk (ap (λ (x : Crosspoint). x.word) (sym e))), λ e. apart.trunk_junctor_trunk (ap (λ (x : Crosspoint). x.word) (sym e))) in
+    let is3 : P2 c3 = (
+      (is3', λ e. apart.line_trunk_junctor (ap (λ (x : Crosspoint). x.word) (sym e))),
+      λ e. apart.line_junctor_trunk_junctor (ap (λ (x : Crosspoint). x.word) (sym e)),
+    ) in
+    let is4 : P3 c4 = (
+      ((is4', λ e. apart.line_trunk (ap (λ (x : Crosspoint). x.word) (sym e))), λ e. apart.line_junctor_trunk (ap (λ (x : Crosspoint). x.word) (sym e))),
+      λ e. apart.trunk_junctor_trunk (ap (λ (x : Crosspoint). x.word) (sym e)),
+    ) in
     let words1 = open_at words c1 in let words2 = open_at words1 c2 in let words3 = open_at words2 c3 in
     let long1 : 400 ≤ length words1 = omega (arith, length-open_at words c1) in
     let long2 : 400 ≤ length words2 = omega (arith, length-open_at words1 c2) in
@@ -287,10 +293,12 @@ without_four-in paths rest path d removes is =
       | inr within ↦ (of.0, within, of.2)
     ]
 
-pub in-without_four : (paths rest : List Path) (path : Path) (d : Crosspoint) → AreInRange paths → AreApart paths → IsIn path paths → Removes paths rest path → IsClosedIn rest d → Without4 (IsClosedIn paths) path d
+pub in-without_four : (paths rest : List Path) (path : Path) (d : Crosspoint) → AreInRange paths → AreApart paths → IsIn path paths → Removes paths rest path
+    → IsClosedIn rest d → Without4 (IsClosedIn paths) path d
 in-without_four paths rest path d ranges apart within removes is =
     let old = removes.back is.0 is.1 in
-    let differs : IsIn d (crosspoints path) → ⊥ = λ own. removes.other is.0 is.1 (apart is.0 path old within (meet is.0 path d d (ranges is.0 old) (ranges path within) is.2 own refl refl)) in
+    let differs : IsIn d (crosspoints path) → ⊥ =
+    λ own. removes.other is.0 is.1 (apart is.0 path old within (meet is.0 path d d (ranges is.0 old) (ranges path within) is.2 own refl refl)) in
     (((((is.0, old, is.2), λ e. differs (inl e)), λ e. differs (inr (inl e))), λ e. differs (inr (inr (inl e)))), λ e. differs (inr (inr (inr (inl e)))))
 
 shown : (words : List ℕ) (paths : List Path) → ShowsPaths words paths → Shows words (IsClosedIn paths)
@@ -307,7 +315,11 @@ pub close_path-shows : (words : List ℕ) (paths more : List Path) (path : Path)
     → has_idle_links paths path ≡ true → Adds paths more path → ShowsPaths (close_path words path) more
 close_path-shows words paths more path long shows ranges p idle adds =
     let four = four_closed words paths path long shows ranges p idle in
-    record { switch = λ n below. same-shows (With4 (IsClosedIn paths) path) (IsClosedIn more) n (get_or (close_path words path) n 0) (λ d. with_four-in paths more path d adds) (λ d. in-with_four paths more path d adds) (four.shows.switch n below) }
+    record {
+      switch =
+          λ n below. same-shows (With4 (IsClosedIn paths) path) (IsClosedIn more) n (get_or (close_path words path) n 0)
+          (λ d. with_four-in paths more path d adds) (λ d. in-with_four paths more path d adds) (four.shows.switch n below);
+    }
 
 -- opening the four of one of the paths: each field then holds its value, and the words then show
 -- the paths without this one
@@ -321,7 +333,11 @@ pub open_path-shows : (words : List ℕ) (paths rest : List Path) (path : Path) 
     → IsIn path paths → Removes paths rest path → ShowsPaths (open_path words path) rest
 open_path-shows words paths rest path long shows ranges apart within removes =
     let four = four_opened words paths path long shows ranges within in
-    record { switch = λ n below. same-shows (Without4 (IsClosedIn paths) path) (IsClosedIn rest) n (get_or (open_path words path) n 0) (λ d. without_four-in paths rest path d removes) (λ d. in-without_four paths rest path d ranges apart within removes) (four.shows.switch n below) }
+    record {
+      switch =
+          λ n below. same-shows (Without4 (IsClosedIn paths) path) (IsClosedIn rest) n (get_or (open_path words path) n 0)
+          (λ d. without_four-in paths rest path d removes) (λ d. in-without_four paths rest path d ranges apart within removes) (four.shows.switch n below);
+    }
 
 -- a set with a path added, and with one removed
 pub with_path-adds : (paths : List Path) (path : Path) → Adds paths (with_path paths path) path

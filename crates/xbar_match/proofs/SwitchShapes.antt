@@ -1,9 +1,6 @@
 use Rattle.std.proofs.Common.{◌≡◌, ℕ, ◌+◌, ◌*◌, ◌%◌, ◌<◌, ◌≤◌, Bool, nat_lt, if◌then◌else◌, ap, arith, lt-ltb, le-ltb}
-use Rattle.std.proofs.lemmas.Bool.{and_left, and_right}
-use Rattle.xbar_equip.proofs.Logic.{both_hold}
-use Rattle.xbar_switch.specs.declared.shape.Shape.{Shape}
-use Rattle.xbar_switch.specs.declared.shape.Shape.TheVariants.{Line, Other}
-use Rattle.xbar_match.specs.Switches.{shape_at}
+use Rattle.{std.proofs.lemmas.Bool.{and_left, and_right}, xbar_equip.proofs.Logic.both_hold}
+use Rattle.{xbar_switch.specs.declared.shape.Shape.{Shape, TheVariants.{Line, Other}}, xbar_match.specs.Switches.shape_at}
 
 abbrev by_test : Bool → Shape
 by_test first = if first then Line else Other

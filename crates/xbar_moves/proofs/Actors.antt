@@ -2,10 +2,7 @@
 use Rattle.std.proofs.Common.{◌≡◌, ℕ, ◌∙◌, ap}
 use mathlib.Core.Option.{some}
 use lib.ListN.{get_elem?}
-use Rattle.turns.specs.World.{Does}
-use Rattle.xbar_jobs.specs.Attempt.{Attempt}
-use Rattle.xbar_moves.specs.Exchange.{Exchange}
-use Rattle.xbar_moves.specs.Holding.{IsAt}
+use Rattle.{turns.specs.World.Does, xbar_jobs.specs.Attempt.Attempt, xbar_moves.specs.{Exchange.Exchange, Holding.IsAt}}
 use Rattle.xbar_moves.proofs.Markers.{actor_there, marker_there, works}
 
 module _ (e : Exchange) (k number : ℕ) (a : Attempt) where

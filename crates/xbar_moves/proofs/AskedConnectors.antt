@@ -1,42 +1,19 @@
 -- a denial is true: of the holder of the connector that was asked for, or of another's request
-use Rattle.std.proofs.Common.{◌≡◌, ◌≢◌, ℕ, ◌+◌, ◌<◌, ◌%◌, Bool, true, false, List, [], ◌∷◌, bit_or, slice_index, refl, sym, ◌∙◌, ap, subst, arith, inl, inr, eq-eqb}
-use Rattle.std.specs.Int.{bit_at}
-use Rattle.std.specs.Prelude.{◌==◌, Option, Some, None, if◌then◌else◌}
-use Rattle.std.proofs.lemmas.Bool.{eqb-true, eqb-false, ne_eqb}
-use Rattle.std.proofs.lemmas.Option.{same_Some}
-use Rattle.turns.specs.Attempt.{IsSeizing, act, act_in, asked_in, closing_act, free_act}
-use Rattle.turns.specs.Law.{FitsIn}
-use Rattle.turns.specs.Denied.{IsDeniedBy}
-use Rattle.turns.specs.Runs.{is_finished}
-use Rattle.turns.specs.Sharing.{IsTrueOf}
-use Rattle.turns.specs.Sharings.{judged, preferring, request_bit, seized_by}
-use Rattle.turns.specs.World.{Does, place}
-use Rattle.turns.specs.declared.answer.Answer.{Answer}
-use Rattle.turns.specs.declared.answer.Answer.TheVariants.{Asked, Seized, Held, Preferred, Again, Value, Turn, Done}
-use Rattle.turns.specs.declared.judgement.Judgement.{Judgement}
+use Rattle.std.proofs.Common.{◌≡◌, ◌≢◌, ℕ, ◌+◌, ◌<◌, ◌%◌, Bool, true, false, List, [], ◌∷◌, bit_or, slice_index, refl, sym, ◌∙◌, ap, subst, arith, inl, inr}
+use Rattle.std.proofs.Common.{eq-eqb, ◌==◌, Option, Some, None, if◌then◌else◌, eqb-true, ne_eqb}
+use Rattle.std.{specs.Int.bit_at, proofs.lemmas.{Bool.eqb-false, Option.same_Some}}
+use Rattle.turns.specs.{Attempt.{IsSeizing, act, act_in, asked_in, closing_act, free_act}, Law.FitsIn, Denied.IsDeniedBy, Runs.is_finished, Sharing.IsTrueOf}
+use Rattle.turns.specs.{Sharings.{judged, preferring, request_bit, seized_by}, World.{Does, place}, declared.answer.Answer.Answer}
+use Rattle.turns.specs.declared.{answer.Answer.TheVariants.{Asked, Seized, Held, Preferred, Again, Value, Turn, Done}, judgement.Judgement.Judgement}
+use Rattle.turns.{specs.declared.phase.Phase.TheVariants.{Requests, Seizes, Tests, Turns, Withdraws, GivesBack, Operates}, proofs.FirstRequests.judged_true}
+use Rattle.turns.proofs.{Lists.there_below, Denied.{put_off_held, put_off_preferred}, LockWords.{asked_holder, asked_others, asked_own, asked_requests}}
+use Rattle.{xbar_equip.specs.{Conn.IsConn, declared.conn.Conn.Conn}, xbar_plan.specs.Tables.Tables, xbar_office.specs.declared.reply.Record.Record}
+use Rattle.xbar_jobs.specs.{Attempt.{Attempt, Phase, next_step}, Office.office, OnWords.answer_of, declared.effect.Effect.Effect}
+use Rattle.xbar_moves.specs.{Exchange.{Exchange, IsLawfulExchange, world}, Holding.{AsksFor, HasRequested, Holds, IsAt}}
+use Rattle.xbar_moves.specs.{Moves.{event_at_step, event_of, finished, moved_on, refused_by}, declared.event.Event.Event}
+use Rattle.xbar_moves.proofs.{Actors.actor_at, Connectors.{conn_word, tells_truth}, Steps.has_come, Worlds.answer_is}
 use Rattle.turns.specs.declared.judgement.Judgement.TheVariants as judgement
-use Rattle.turns.specs.declared.phase.Phase.TheVariants.{Requests, Seizes, Tests, Turns, Withdraws, GivesBack, Operates}
-use Rattle.turns.proofs.FirstRequests.{judged_true}
-use Rattle.turns.proofs.Lists.{there_below}
-use Rattle.turns.proofs.Denied.{put_off_held, put_off_preferred}
-use Rattle.turns.proofs.LockWords.{asked_holder, asked_others, asked_own, asked_requests}
-use Rattle.xbar_equip.specs.Conn.{IsConn}
-use Rattle.xbar_equip.specs.declared.conn.Conn.{Conn}
-use Rattle.xbar_plan.specs.Tables.{Tables}
-use Rattle.xbar_office.specs.declared.reply.Record.{Record}
-use Rattle.xbar_jobs.specs.Attempt.{Attempt, Phase, next_step}
-use Rattle.xbar_jobs.specs.Office.{office}
-use Rattle.xbar_jobs.specs.OnWords.{answer_of}
-use Rattle.xbar_jobs.specs.declared.effect.Effect.{Effect}
-use Rattle.xbar_moves.specs.Exchange.{Exchange, IsLawfulExchange, world}
-use Rattle.xbar_moves.specs.Holding.{AsksFor, HasRequested, Holds, IsAt}
-use Rattle.xbar_moves.specs.Moves.{event_at_step, event_of, finished, moved_on, refused_by}
-use Rattle.xbar_moves.specs.declared.event.Event.{Event}
 use Rattle.xbar_moves.specs.declared.event.Event.TheVariants as event
-use Rattle.xbar_moves.proofs.Actors.{actor_at}
-use Rattle.xbar_moves.proofs.Connectors.{conn_word, tells_truth}
-use Rattle.xbar_moves.proofs.Steps.{has_come}
-use Rattle.xbar_moves.proofs.Worlds.{answer_is}
 
 -- a lower marker's request is in a word with the own request only if it was there before
 lower_stood : (k word j : ℕ) → k < 48 → j < k → (bit_at (bit_or word (request_bit k)) (8 + j) == 1) ≡ true → bit_at word (8 + j) ≡ 1
@@ -110,7 +87,8 @@ module _ (plan : Tables) (e : Exchange) (lawful : IsLawfulExchange plan e) (k nu
     asked = ap asked_in is;
     range = (fits_in (Seizes conn expected) is).0;
     word = conn_word e conn;
-    judges = ap (λ (same : Bool). judged k (if same then seized_by k expected else conn_word e conn)) (sym (ne_eqb (conn_word e conn) expected differs)) ∙ by.says;
+    judges =
+        ap (λ (same : Bool). judged k (if same then seized_by k expected else conn_word e conn)) (sym (ne_eqb (conn_word e conn) expected differs)) ∙ by.says;
     holder = refl;
     lower = λ other less set. eqb-true (bit_at (conn_word e conn) (8 + other)) 1 set;
     all = λ other below set. eq-eqb (bit_at (conn_word e conn) (8 + other)) 1 set;
@@ -136,7 +114,8 @@ module _ (plan : Tables) (e : Exchange) (lawful : IsLawfulExchange plan e) (k nu
   judged_held holder is = judged_in a.phase (judgement.Held holder) refl (put_off_held (office plan) k _ holder (act a) (sym (answer_is plan k e.words a) ∙ is))
 
   pub judged_preferred : (other : ℕ) → answer_of k (next_step a) e.words ≡ Preferred other → IsJudged e k a (judgement.Preferred other)
-  judged_preferred other is = judged_in a.phase (judgement.Preferred other) refl (put_off_preferred (office plan) k _ other (act a) (sym (answer_is plan k e.words a) ∙ is))
+  judged_preferred other is =
+      judged_in a.phase (judgement.Preferred other) refl (put_off_preferred (office plan) k _ other (act a) (sym (answer_is plan k e.words a) ∙ is))
 
   module _ (j : Judgement) (seen : IsJudged e k a j) where
     -- and the judgement is true of the word
@@ -147,7 +126,8 @@ module _ (plan : Tables) (e : Exchange) (lawful : IsLawfulExchange plan e) (k nu
     asks = record { number = number; attempt = a; at = at; asked = seen.asked }
 
   -- a marker that is refused a connector asks for it, and the one that is named holds it
-  pub is_refused : (holder : ℕ) (conn : Conn) → answer_of k (next_step a) e.words ≡ Held holder → asked_in a.phase ≡ Some conn → AsksFor e k conn × Holds e holder conn
+  pub is_refused : (holder : ℕ) (conn : Conn) → answer_of k (next_step a) e.words ≡ Held holder → asked_in a.phase ≡ Some conn
+      → AsksFor e k conn × Holds e holder conn
   is_refused holder conn is asked =
       let seen = judged_held holder is in
       let one : seen.conn ≡ conn = same_Some _ _ (sym seen.asked ∙ asked) in
@@ -158,7 +138,8 @@ module _ (plan : Tables) (e : Exchange) (lawful : IsLawfulExchange plan e) (k nu
 
   -- if another marker is preferred, it has a lower number and has requested the connector, and
   -- nobody holds it
-  pub is_preferred : (other : ℕ) → answer_of k (next_step a) e.words ≡ Preferred other → (conn : Conn) × AsksFor e k conn × (other < k) × HasRequested e other conn × ((j : ℕ) → ¬ Holds e j conn)
+  pub is_preferred : (other : ℕ) → answer_of k (next_step a) e.words ≡ Preferred other
+      → (conn : Conn) × AsksFor e k conn × (other < k) × HasRequested e other conn × ((j : ℕ) → ¬ Holds e j conn)
   is_preferred other is =
       let seen = judged_preferred other is in
       let truth = true_of (judgement.Preferred other) seen in
@@ -186,7 +167,8 @@ module _ (k number : ℕ) (a after : Attempt) where
   by_refusal told holder None conn ends = absurd cc
   by_refusal told holder (Some asked) conn ends = (cc, cc)
 
-  refused_answer : (answer : Answer) (holder : ℕ) (conn : Conn) → event_of k number a after answer ≡ event.Refused conn holder → (answer ≡ Held holder) × (asked_in a.phase ≡ Some conn)
+  refused_answer : (answer : Answer) (holder : ℕ) (conn : Conn) → event_of k number a after answer ≡ event.Refused conn holder
+      → (answer ≡ Held holder) × (asked_in a.phase ≡ Some conn)
   refused_answer (Held told) holder conn ends = let same = by_refusal told holder (asked_in a.phase) conn ends in (ap Held same.0, same.1)
   refused_answer (Preferred other) holder conn ends = absurd cc
   refused_answer (Asked word) holder conn ends = absurd cc
@@ -211,14 +193,16 @@ module _ (k number : ℕ) (a after : Attempt) where
   preferred_answer Done other ends = absurd (done_goes (is_finished (act after)) (event.Preferred other) (λ r same. cc) (λ same. cc) ends)
 
 -- a refusal tells the truth
-pub refusal_true : (plan : Tables) (e : Exchange) (k holder : ℕ) (conn : Conn) → IsLawfulExchange plan e → event_at_step plan k e ≡ event.Refused conn holder → AsksFor e k conn × Holds e holder conn
+pub refusal_true : (plan : Tables) (e : Exchange) (k holder : ℕ) (conn : Conn) → IsLawfulExchange plan e → event_at_step plan k e ≡ event.Refused conn holder
+    → AsksFor e k conn × Holds e holder conn
 refusal_true plan e k holder conn lawful ends =
     let come = has_come plan e k (event.Refused conn holder) (λ same. cc) ends in
     let answer = refused_answer k come.number come.attempt _ _ holder conn come.comes in
     is_refused plan e lawful k come.number come.attempt come.at holder conn answer.0 answer.1
 
 -- and so does a preference
-pub preference_true : (plan : Tables) (e : Exchange) (k other : ℕ) → IsLawfulExchange plan e → event_at_step plan k e ≡ event.Preferred other → (conn : Conn) × AsksFor e k conn × (other < k) × HasRequested e other conn × ((j : ℕ) → ¬ Holds e j conn)
+pub preference_true : (plan : Tables) (e : Exchange) (k other : ℕ) → IsLawfulExchange plan e → event_at_step plan k e ≡ event.Preferred other
+    → (conn : Conn) × AsksFor e k conn × (other < k) × HasRequested e other conn × ((j : ℕ) → ¬ Holds e j conn)
 preference_true plan e k other lawful ends =
     let come = has_come plan e k (event.Preferred other) (λ same. cc) ends in
     is_preferred plan e lawful k come.number come.attempt come.at other (preferred_answer k come.number come.attempt _ _ other come.comes)

@@ -1,27 +1,18 @@
 -- a marker that is to begin its job anew withdraws its request and frees what it holds, and then is there
-use Rattle.std.proofs.Common.{◌≡◌, ℕ, suc, ◌+◌, ◌<◌, Bool, true, false, List, [], ◌∷◌, length, refl, sym, ◌∙◌, ap, subst, arith}
-use Rattle.std.specs.Prelude.{Option, Some, None, is_some, if◌then◌else◌, slice_get}
+use Rattle.std.proofs.Common.{◌≡◌, ℕ, suc, ◌+◌, ◌<◌, Bool, true, false, List, [], ◌∷◌, length, refl, sym, ◌∙◌, ap, subst, arith, Option, Some, None, is_some}
+use Rattle.std.proofs.Common.{if◌then◌else◌, slice_get}
+use Rattle.turns.specs.Attempt.{act, act_in, change, changed, forgotten, free_act, giving_back, request_in, rest_of, restarted, restarted_in, turn_in}
+use Rattle.turns.specs.{Runs.is_finished, World.{Idle, Does}, declared.{answer.Answer.Answer, phase.Phase.TheVariants.{Requests, Seizes, Tests, Turns}}}
+use Rattle.{turns.specs.declared.phase.Phase.TheVariants.{Withdraws, GivesBack, Operates}, xbar_equip.specs.declared.conn.Conn.Conn}
+use Rattle.{xbar_plan.specs.Tables.Tables, xbar_jobs.specs.{Attempt.{Act, Attempt, Phase, next_step, step_of}, Office.office, declared.effect.Effect.Effect}}
+use Rattle.xbar_moves.specs.AtWork.{answer_to_step, IsBackingAt, IsBackingBy, IsBackingIn, withdraws_or_frees, withdraws_or_frees_at, is_turned}
+use Rattle.xbar_moves.specs.{Exchange.{Exchange, Marker, OfPlan, Work, is_idle}, Holding.IsAt}
+use Rattle.xbar_moves.specs.Moves.{backed_as, restarted_at, frees_left, given_at, given_back, given_by, request_count, after_step, steps}
+use Rattle.xbar_moves.proofs.{Jobs.{restarted_job, at_job_has, at_job_is, work_at}, StepCases.{gone_on, step_count}, Worlds.{answer_is, found_by}}
 use Rattle.turns.specs.Attempt as generic
 use Rattle.turns.specs.declared.act.Act.TheVariants as act_is
-use Rattle.turns.specs.Attempt.{act, act_in, change, changed, forgotten, free_act, giving_back, request_in, rest_of, restarted, restarted_in, turn_in}
-use Rattle.turns.specs.Runs.{is_finished}
-use Rattle.turns.specs.World.{Idle, Does}
-use Rattle.turns.specs.declared.answer.Answer.{Answer}
-use Rattle.turns.specs.declared.phase.Phase.TheVariants.{Requests, Seizes, Tests, Turns, Withdraws, GivesBack, Operates}
-use Rattle.xbar_equip.specs.declared.conn.Conn.{Conn}
-use Rattle.xbar_plan.specs.Tables.{Tables}
-use Rattle.xbar_jobs.specs.Attempt.{Act, Attempt, Phase, next_step, step_of}
-use Rattle.xbar_jobs.specs.Office.{office}
-use Rattle.xbar_jobs.specs.declared.effect.Effect.{Effect}
-use Rattle.xbar_moves.specs.AtWork.{answer_to_step, IsBackingAt, IsBackingBy, IsBackingIn, withdraws_or_frees, withdraws_or_frees_at, is_turned}
-use Rattle.xbar_moves.specs.Exchange.{Exchange, Marker, OfPlan, Work, is_idle}
-use Rattle.xbar_moves.specs.Holding.{IsAt}
-use Rattle.xbar_moves.specs.Moves.{backed_as, begun_anew, frees_left, given_at, given_back, given_by, request_count, after_step, steps}
-use Rattle.xbar_moves.specs.declared.given.Given.{Given}
 use Rattle.xbar_moves.specs.declared.given.Given.TheVariants as given
-use Rattle.xbar_moves.proofs.Jobs.{anew_at, at_job_has, at_job_is, work_at}
-use Rattle.xbar_moves.proofs.StepCases.{gone_on, step_count}
-use Rattle.xbar_moves.proofs.Worlds.{answer_is, found_by}
+use Rattle.xbar_moves.specs.declared.given.Given.{Given}
 
 -- what is left to give up
 abbrev pub left_in : Attempt → ℕ
@@ -32,7 +23,8 @@ abbrev IsOneLess : Attempt → ℕ → Type 0
 IsOneLess b before = IsBackingIn b b.phase × (suc (left_in b) ≡ before)
 
 -- an attempt on its way back is in one of three phases
-pub by_backing : (Has : Phase → Type 0) (a : Attempt) → ((conn : Conn) → Has (Withdraws conn)) → (¬ (a.held ≡ []) → Has GivesBack) → ((conn : Conn) → a.held ≡ [] → Has (Requests conn)) → (phase : Phase) → IsBackingIn a phase → Has phase
+pub by_backing : (Has : Phase → Type 0) (a : Attempt) → ((conn : Conn) → Has (Withdraws conn)) → (¬ (a.held ≡ []) → Has GivesBack)
+    → ((conn : Conn) → a.held ≡ [] → Has (Requests conn)) → (phase : Phase) → IsBackingIn a phase → Has phase
 by_backing Has a withdraws gives requests (Withdraws conn) backs = withdraws conn
 by_backing Has a withdraws gives requests GivesBack backs = gives backs
 by_backing Has a withdraws gives requests (Requests conn) backs = requests conn backs
@@ -46,12 +38,17 @@ module _ (plan : Tables) where
   freed_less a [] = (refl, refl)
   freed_less a (conn ∷ held) = ((λ e. cc), omega arith)
 
-  given_less : (k found : ℕ) (a : Attempt) (held : List Conn) → a.held ≡ held → ¬ (held ≡ []) → IsOneLess (changed (office plan) a GivesBack (generic.answer_to (office plan) k (free_act held) found)) (length held)
+  given_less : (k found : ℕ) (a : Attempt) (held : List Conn) → a.held ≡ held → ¬ (held ≡ [])
+      → IsOneLess (changed (office plan) a GivesBack (generic.answer_to (office plan) k (free_act held) found)) (length held)
   given_less k found a [] at not = absurd (not refl)
-  given_less k found a (conn ∷ held) at not = subst (λ (all : List Conn). IsOneLess (giving_back (office plan) a (rest_of all)) (suc (length held))) (sym at) (freed_less a held)
+  given_less k found a (conn ∷ held) at not =
+      subst (λ (all : List Conn). IsOneLess (giving_back (office plan) a (rest_of all)) (suc (length held))) (sym at) (freed_less a held)
 
   abbrev Lessens : ℕ → ℕ → Attempt → Phase → Type 0
-  Lessens k found a phase = withdraws_or_frees (step_of (act_in phase a)) ≡ true → IsOneLess (changed (office plan) a phase (generic.answer_to (office plan) k (act_in phase a) found)) (request_count (request_in phase) + length a.held)
+  Lessens k found a phase =
+      withdraws_or_frees (step_of (act_in phase a))
+      ≡ true
+      → IsOneLess (changed (office plan) a phase (generic.answer_to (office plan) k (act_in phase a) found)) (request_count (request_in phase) + length a.held)
 
   less_in : (k found : ℕ) (a : Attempt) (phase : Phase) → IsBackingIn a phase → Lessens k found a phase
   less_in k found a = by_backing (Lessens k found a) a
@@ -60,8 +57,11 @@ module _ (plan : Tables) where
       (λ conn none goes. absurd cc)
 
   -- with each step there is one thing less to give up
-  pub one_less : (k : ℕ) (words : List ℕ) (a : Attempt) → IsBackingIn a a.phase → withdraws_or_frees (next_step a) ≡ true → IsOneLess (change (office plan) a (answer_to_step k words a)) (left_in a)
-  one_less k words a backs goes = subst (λ (answer : Answer). IsOneLess (change (office plan) a answer) (left_in a)) (sym (answer_is plan k words a)) (less_in k (found_by plan words a) a a.phase backs goes)
+  pub one_less : (k : ℕ) (words : List ℕ) (a : Attempt) → IsBackingIn a a.phase → withdraws_or_frees (next_step a) ≡ true
+      → IsOneLess (change (office plan) a (answer_to_step k words a)) (left_in a)
+  one_less k words a backs goes =
+      subst (λ (answer : Answer). IsOneLess (change (office plan) a answer) (left_in a)) (sym (answer_is plan k words a))
+      (less_in k (found_by plan words a) a a.phase backs goes)
 
 -- a step that gives up is one
 pub gives_up_goes : (next : Act) → withdraws_or_frees (step_of next) ≡ true → is_finished next ≡ false
@@ -83,7 +83,8 @@ none_freed : (held : List Conn) → ¬ (held ≡ []) → withdraws_or_frees (ste
 none_freed [] not e = not refl
 none_freed (conn ∷ held) not e = cc
 
-none_left_in : (a : Attempt) (phase : Phase) → IsBackingIn a phase → withdraws_or_frees (step_of (act_in phase a)) ≡ false → request_count (request_in phase) + length a.held ≡ 0
+none_left_in : (a : Attempt) (phase : Phase) → IsBackingIn a phase → withdraws_or_frees (step_of (act_in phase a)) ≡ false
+    → request_count (request_in phase) + length a.held ≡ 0
 none_left_in a = by_backing (λ phase. withdraws_or_frees (step_of (act_in phase a)) ≡ false → request_count (request_in phase) + length a.held ≡ 0) a
     (λ conn rests. absurd cc)
     (λ more rests. absurd (none_freed a.held more rests))
@@ -139,7 +140,8 @@ goes_with a count backs left = by (withdraws_or_frees (next_step a)) refl where
   by true is = is
   by false rests = let none = none_left_in a a.phase backs rests in absurd (omega (arith, none, left))
 
-pub gives_one : (plan : Tables) (k : ℕ) (e : Exchange) → IsBackingAt (slice_get e.markers k) → (count : ℕ) → frees_left e k ≡ suc count → GaveUp (after_step plan k e) k (frees_left e k)
+pub gives_one : (plan : Tables) (k : ℕ) (e : Exchange) → IsBackingAt (slice_get e.markers k) → (count : ℕ) → frees_left e k ≡ suc count
+    → GaveUp (after_step plan k e) k (frees_left e k)
 gives_one plan k e backs count left =
     let back = backing e k backs in
     gave_up plan e k back (goes_with back.attempt count back.backs (sym (left_is e k back.number back.attempt back.at) ∙ left))
@@ -179,7 +181,8 @@ module _ (first now next : OfPlan) (k : ℕ) (m : Marker) (there : slice_get now
       }
 
   -- each time there is less to give up
-  pub less_given : withdraws_or_frees_at m.work ≡ true → next ≡ record now { exchange = after_step now.plan k now.exchange } → frees_left next.exchange k < frees_left now.exchange k
+  pub less_given : withdraws_or_frees_at m.work ≡ true → next ≡ record now { exchange = after_step now.plan k now.exchange }
+      → frees_left next.exchange k < frees_left now.exchange k
   less_given goes is =
       let less = gave goes in
       let after = ap (λ (o : OfPlan). frees_left o.exchange k) is in
@@ -193,7 +196,8 @@ module _ (first now next : OfPlan) (k : ℕ) (m : Marker) (there : slice_get now
 
 module _ (plan : Tables) where
   -- a marker that is not past its turn is on its way back once it is to begin anew
-  freed_backs : (a : Attempt) (held : List Conn) → IsBackingIn (giving_back (office plan) a held) (giving_back (office plan) a held).phase × (left_in (giving_back (office plan) a held) ≡ length held)
+  freed_backs : (a : Attempt) (held : List Conn)
+      → IsBackingIn (giving_back (office plan) a held) (giving_back (office plan) a held).phase × (left_in (giving_back (office plan) a held) ≡ length held)
   freed_backs a [] = (refl, omega arith)
   freed_backs a (conn ∷ held) = ((λ e. cc), omega arith)
 
@@ -208,7 +212,8 @@ module _ (plan : Tables) where
   anew_in a (Tests word) at goes is = let back = freed_backs (forgotten a) a.held in (back.0, omega (arith, back.1))
   anew_in a Turns at goes is = let back = freed_backs (forgotten a) a.held in (back.0, omega (arith, back.1))
   anew_in a (Withdraws conn) at goes is = (subst (IsBackingIn a) (sym at) tt, ap (λ (phase : Phase). request_count (request_in phase) + length a.held) at)
-  anew_in a GivesBack at goes is = (subst (IsBackingIn a) (sym at) (stays_back a.held goes), ap (λ (phase : Phase). request_count (request_in phase) + length a.held) at)
+  anew_in a GivesBack at goes is =
+      (subst (IsBackingIn a) (sym at) (stays_back a.held goes), ap (λ (phase : Phase). request_count (request_in phase) + length a.held) at)
   anew_in a (Operates turn) at goes is = absurd cc
 
 -- what each answer of a marker that is asked to give back says of its work
@@ -220,7 +225,8 @@ Answers work given.Idle = is_idle work ≡ true
 pub answers : (work : Work) → Answers work (given_by work)
 answers Idle = refl
 answers (Does n a) = by (is_finished (act a)) (is_some (turn_in a.phase)) refl refl where
-  by : (idle past : Bool) → is_finished (act a) ≡ idle → is_some (turn_in a.phase) ≡ past → Answers (Does n a) (if idle then given.Idle else (if past then given.PastTurn else given.Given))
+  by : (idle past : Bool) → is_finished (act a) ≡ idle → is_some (turn_in a.phase) ≡ past
+      → Answers (Does n a) (if idle then given.Idle else (if past then given.PastTurn else given.Given))
   by true past rests is = rests
   by false true goes is = (goes, is)
   by false false goes is = (goes, is)
@@ -238,23 +244,23 @@ module _ (plan : Tables) (e : Exchange) (k : ℕ) where
       (λ n a at is. record { number = n; attempt = a; at = at; told = subst (Answers (Does n a)) is (answers (Does n a)) })
 
   -- if it gives back, it begins anew once all is given up
-  pub anew : given_at e k ≡ given.Given → IsBackingAt (slice_get (begun_anew plan k e).markers k) × (frees_left (begun_anew plan k e) k ≡ frees_left e k)
-  anew is =
+  pub starts_back : given_at e k ≡ given.Given → IsBackingAt (slice_get (restarted_at plan k e).markers k) × (frees_left (restarted_at plan k e) k ≡ frees_left e k)
+  starts_back is =
       let has = gives is in
       let b = restarted (office plan) has.attempt in
-      let now = anew_at plan e k has.number has.attempt has.at in
+      let now = restarted_job plan e k has.number has.attempt has.at in
       let back = anew_in plan has.attempt has.attempt.phase refl has.told.0 has.told.1 in
       (backing_at _ k has.number b now back.0, left_is _ k has.number b now ∙ back.1 ∙ sym (left_is e k has.number has.attempt has.at))
 
-  pub back_goes : given_at e k ≡ given.Given → given_back plan k e ≡ steps plan k (frees_left e k) (begun_anew plan k e)
+  pub back_goes : given_at e k ≡ given.Given → given_back plan k e ≡ steps plan k (frees_left e k) (restarted_at plan k e)
   unfolding given_back
-  back_goes is = ap (λ (what : Given). backed_as what (steps plan k (frees_left e k) (begun_anew plan k e)) e) is
+  back_goes is = ap (λ (what : Given). backed_as what (steps plan k (frees_left e k) (restarted_at plan k e)) e) is
 
   -- if a marker does not give back, nothing changes
   pub back_rests : ¬ (given_at e k ≡ given.Given) → given_back plan k e ≡ e
   unfolding given_back
   back_rests not = by (given_at e k) not where
-    by : (what : Given) → ¬ (what ≡ given.Given) → backed_as what (steps plan k (frees_left e k) (begun_anew plan k e)) e ≡ e
+    by : (what : Given) → ¬ (what ≡ given.Given) → backed_as what (steps plan k (frees_left e k) (restarted_at plan k e)) e ≡ e
     by given.Given other = absurd (other refl)
     by given.PastTurn other = refl
     by given.Idle other = refl

@@ -2,34 +2,14 @@
 use Rattle.std.proofs.Common.{◌≡◌, ◌≢◌, ℕ, zero, suc, ◌<◌, ◌⊎◌, List, [], length, slice_index, inl, inr, refl, sym, ◌∙◌, ap, subst, arith}
 use mathlib.Core.Option.{some, some-injective}
 use lib.ListN.{get_elem?}
-use Rattle.turns.specs.Among.{IsIn}
-use Rattle.turns.specs.Attempt.{effects_left_in}
+use Rattle.turns.specs.{Among.IsIn, Attempt.effects_left_in, System.IsUnder, World.Does, declared.phase.Phase.TheVariants.Operates}
+use Rattle.{turns.proofs.{Completed.perform_index, Consequences.{free_word, held_word}}, xbar_equip.specs.declared.conn.Conn.Conn}
+use Rattle.{xbar_equip.specs.declared.crosspoint.Crosspoint.Crosspoint, xbar_switch.specs.Field.field_of, xbar_match.specs.Switches.{held_at, shape_at}}
+use Rattle.{xbar_plan.specs.{Lawful.IsLawful, Tables.Tables}, xbar_jobs.specs.{Attempt.{Attempt, Phase}, Closing.{effect_word, value_after as made_of}}}
+use Rattle.xbar_jobs.{specs.{Office.{Protects, office}, declared.effect.Effect.{Effect, TheVariants.Open}}, proofs.OfficeSystem.{office_is, word_protected}}
+use Rattle.xbar_moves.specs.{Exchange.{Exchange, IsLawfulExchange, Work, world}, Holding.{IsAt, completed}, Links.IsClosed}
+use Rattle.xbar_moves.proofs.{Actors.{actor_at, marker_at}, LeftEffects.opens_or_stays, MadeEffects.past_or_not, Markers.works, TurnedJobs.decided}
 use Rattle.turns.specs.Law as law
-use Rattle.turns.specs.System.{IsUnder}
-use Rattle.turns.specs.World.{Does}
-use Rattle.turns.specs.declared.phase.Phase.TheVariants.{Operates}
-use Rattle.turns.proofs.Completed.{perform_index}
-use Rattle.turns.proofs.Consequences.{free_word, held_word}
-use Rattle.xbar_equip.specs.declared.conn.Conn.{Conn}
-use Rattle.xbar_equip.specs.declared.crosspoint.Crosspoint.{Crosspoint}
-use Rattle.xbar_switch.specs.Field.{field_of}
-use Rattle.xbar_match.specs.Switches.{held_at, shape_at}
-use Rattle.xbar_plan.specs.Lawful.{IsLawful}
-use Rattle.xbar_plan.specs.Tables.{Tables}
-use Rattle.xbar_jobs.specs.Attempt.{Attempt, Phase}
-use Rattle.xbar_jobs.specs.Closing.{effect_word, value_after as made_of}
-use Rattle.xbar_jobs.specs.Office.{Protects, office}
-use Rattle.xbar_jobs.specs.declared.effect.Effect.{Effect}
-use Rattle.xbar_jobs.specs.declared.effect.Effect.TheVariants.{Open}
-use Rattle.xbar_jobs.proofs.OfficeSystem.{office_is, word_protected}
-use Rattle.xbar_moves.specs.Exchange.{Exchange, IsLawfulExchange, Work, world}
-use Rattle.xbar_moves.specs.Holding.{IsAt, completed}
-use Rattle.xbar_moves.specs.Links.{IsClosed}
-use Rattle.xbar_moves.proofs.Actors.{actor_at, marker_at}
-use Rattle.xbar_moves.proofs.LeftEffects.{opens_or_stays}
-use Rattle.xbar_moves.proofs.MadeEffects.{past_or_not}
-use Rattle.xbar_moves.proofs.Markers.{works}
-use Rattle.xbar_moves.proofs.TurnedJobs.{decided}
 
 -- a marker past its turn has this crosspoint left to open
 pub record HasLeft (e : Exchange) (c : Crosspoint) : Type 0 where
@@ -48,7 +28,8 @@ module _ (plan : Tables) (laws : IsLawful plan) (e : Exchange) (lawful : IsLawfu
     opener_named conn protects has =
         let under = (decided plan laws e lawful has.k has.number has.turn has.attempt has.at has.past).left_under (Open c) has.left in
         let same : under.lock ≡ conn = (office_is plan laws).words.one_protector c.word under.lock conn under.protects protects in
-        ap (law.holder_at (office plan) e.words) (sym same) ∙ ((lawful.sound has.k has.number has.attempt (actor_at e has.k has.number has.attempt has.at)).held under.lock under.held).names
+        ap (law.holder_at (office plan) e.words) (sym same)
+        ∙ ((lawful.sound has.k has.number has.attempt (actor_at e has.k has.number has.attempt has.at)).held under.lock under.held).names
 
     -- a closed crosspoint is left to be opened, or nobody has it left and it is closed in the completed words
     abbrev IsLeftOrStays : Type 0
@@ -63,7 +44,8 @@ module _ (plan : Tables) (laws : IsLawful plan) (e : Exchange) (lawful : IsLawfu
       stays_by (free_word (office plan) (office_is plan laws) (world plan e) lawful c.word conn protects free),
     )
 
-    module _ (conn : Conn) (protects : Protects conn c.word) (k number : ℕ) (a : Attempt) (names : law.holder_at (office plan) e.words conn ≡ suc k) (does : get_elem? (works e.markers) k ≡ some (Does number a)) (held : IsIn conn a.held) where
+    module _ (conn : Conn) (protects : Protects conn c.word) (k number : ℕ) (a : Attempt) (names : law.holder_at (office plan) e.words conn ≡ suc k)
+        (does : get_elem? (works e.markers) k ≡ some (Does number a)) (held : IsIn conn a.held) where
       under : IsUnder (office plan) a.held c.word
       under = record { lock = conn; protects = protects; held = held }
 
@@ -72,7 +54,8 @@ module _ (plan : Tables) (laws : IsLawful plan) (e : Exchange) (lawful : IsLawfu
       same_attempt has =
           let numbers : suc has.k ≡ suc k = sym (opener_named conn protects has) ∙ names in
           let one : has.k ≡ k = cc in
-          let there : get_elem? (works e.markers) k ≡ some (Does has.number has.attempt) = subst (λ (j : ℕ). get_elem? (works e.markers) j ≡ some (Does has.number has.attempt)) one (actor_at e has.k has.number has.attempt has.at) in
+          let there : get_elem? (works e.markers) k ≡ some (Does has.number has.attempt) =
+          subst (λ (j : ℕ). get_elem? (works e.markers) j ≡ some (Does has.number has.attempt)) one (actor_at e has.k has.number has.attempt has.at) in
           let both : ◌≡◌ {A = Work} (Does has.number has.attempt) (Does number a) = some-injective _ _ (sym there ∙ does) in
           cc
 
@@ -100,7 +83,9 @@ module _ (plan : Tables) (laws : IsLawful plan) (e : Exchange) (lawful : IsLawfu
             )
           ] where
             below : (effect : Effect) → IsUnder (office plan) a.held (effect_word effect) → effect_word effect < length e.words
-            below effect over = subst (λ (size : ℕ). effect_word effect < size) (sym lawful.size) ((office_is plan laws).words.word_there (effect_word effect) over.lock over.protects)
+            below effect over =
+                subst (λ (size : ℕ). effect_word effect < size) (sym lawful.size)
+                ((office_is plan laws).words.word_there (effect_word effect) over.lock over.protects)
 
       by_holder : IsLeftOrStays
       by_holder = elim (past_or_not a.phase a.effects) [ inl past ↦ by_past past.0 past.1 | inr waits ↦ by_waiting waits.0 waits.1 ]

@@ -1,18 +1,9 @@
 -- a connector's word tells which marker holds it, and which markers have requested it
-use Rattle.std.proofs.Common.{◌≡◌, ℕ, zero, suc, ◌+◌, ◌<◌, ◌≤◌, ◌%◌, ◌⊎◌, slice_index, inl, inr, refl, arith, eq-eqb}
-use Rattle.std.specs.Int.{bit_at}
-use Rattle.std.proofs.lemmas.Bool.{eqb-true}
-use Rattle.std.proofs.lemmas.Nat.Bits.{bit_at-lt}
+use Rattle.std.proofs.Common.{◌≡◌, ℕ, zero, suc, ◌+◌, ◌<◌, ◌≤◌, ◌%◌, ◌⊎◌, slice_index, inl, inr, refl, arith, eq-eqb, eqb-true}
+use Rattle.{std.{specs.Int.bit_at, proofs.lemmas.Nat.Bits.bit_at-lt}, turns.proofs.Preferring.preferring_shows}
+use Rattle.{xbar_equip.specs.{Conn.IsConn, Word.{ConnWord, word_number}, declared.conn.Conn.Conn}, xbar_plan.specs.Tables.Tables, xbar_jobs.specs.Office.office}
+use Rattle.xbar_moves.{specs.{Exchange.{Exchange, IsLawfulExchange, world}, Holding.{Holds, HasRequested, TellsTruth}}, proofs.Actors.{actor_at, marker_at}}
 use Rattle.turns.specs.Law as law
-use Rattle.turns.proofs.Preferring.{preferring_shows}
-use Rattle.xbar_equip.specs.Conn.{IsConn}
-use Rattle.xbar_equip.specs.Word.{ConnWord, word_number}
-use Rattle.xbar_equip.specs.declared.conn.Conn.{Conn}
-use Rattle.xbar_plan.specs.Tables.{Tables}
-use Rattle.xbar_jobs.specs.Office.{office}
-use Rattle.xbar_moves.specs.Exchange.{Exchange, IsLawfulExchange, world}
-use Rattle.xbar_moves.specs.Holding.{Holds, HasRequested, TellsTruth}
-use Rattle.xbar_moves.proofs.Actors.{actor_at, marker_at}
 
 zero_or_more : (n : ℕ) → (n ≡ 0) ⊎ ((k : ℕ) × (n ≡ suc k))
 zero_or_more zero = inl refl
@@ -33,7 +24,8 @@ module _ (plan : Tables) (e : Exchange) (lawful : IsLawfulExchange plan e) (conn
 
     -- and a marker that is named holds it
     holds_named : (k : ℕ) → conn_word e conn % 64 ≡ suc k → Holds e k conn
-    holds_named k names = let holds = shared.named k names in record { number = holds.number; attempt = holds.attempt; at = marker_at e k holds.number holds.attempt holds.does; held = holds.held }
+    holds_named k names = let holds = shared.named k names in
+        record { number = holds.number; attempt = holds.attempt; at = marker_at e k holds.number holds.attempt holds.does; held = holds.held }
 
     -- the word of a connector that nobody holds names nobody
     pub free_word : ((k : ℕ) → ¬ Holds e k conn) → conn_word e conn % 64 ≡ 0
@@ -48,7 +40,8 @@ module _ (plan : Tables) (e : Exchange) (lawful : IsLawfulExchange plan e) (conn
     set_asked : (k : ℕ) → k < 48 → HasRequested e k conn → bit_at (conn_word e conn) (8 + k) ≡ 1
     set_asked k few asks =
         let does = actor_at e k asks.number asks.attempt asks.at in
-        eqb-true (bit_at (conn_word e conn) (8 + k)) 1 ((shared.requested k few).shown preferring_shows (record { number = asks.number; attempt = asks.attempt; does = does; requests = asks.request }))
+        eqb-true (bit_at (conn_word e conn) (8 + k)) 1 ((shared.requested k few).shown preferring_shows
+        (record { number = asks.number; attempt = asks.attempt; does = does; requests = asks.request }))
 
     -- no other bit is set
     other_bits : (bit : ℕ) → ((6 ≤ bit) × (bit < 8)) ⊎ (56 ≤ bit) → bit_at (conn_word e conn) bit ≡ 0

@@ -1,22 +1,10 @@
 -- a connector is freed in giving back, or past the turn once all effects are made, and no protected word is changed by it
 use Rattle.std.proofs.Common.{◌≡◌, ℕ, ◌<◌, ◌⊎◌, List, [], ◌∷◌, slice_index, inl, inr, refl, ◌∙◌, ap, arith}
-use Rattle.turns.specs.Attempt.{act, act_in, closing_act}
-use Rattle.turns.specs.declared.act.Act.TheVariants.{Free}
-use Rattle.turns.specs.Runs.{is_finished}
-use Rattle.turns.specs.World.{place}
-use Rattle.turns.specs.declared.phase.Phase.TheVariants.{Requests, Seizes, Tests, Turns, Withdraws, GivesBack, Operates}
-use Rattle.turns.proofs.Lists.{index_other}
-use Rattle.xbar_equip.specs.declared.conn.Conn.{Conn}
-use Rattle.xbar_plan.specs.Tables.{Tables}
-use Rattle.xbar_jobs.specs.Attempt.{Act, Attempt, Phase}
-use Rattle.xbar_jobs.specs.Office.{office}
-use Rattle.xbar_jobs.specs.declared.effect.Effect.{Effect}
-use Rattle.xbar_moves.specs.Exchange.{Exchange}
-use Rattle.xbar_moves.specs.Holding.{IsAt}
-use Rattle.xbar_moves.specs.Moves.{after_step}
-use Rattle.xbar_moves.proofs.GivenBack.{conn_behind}
-use Rattle.xbar_moves.proofs.StepCases.{step_made}
-use Rattle.xbar_moves.proofs.Worlds.{words_are}
+use Rattle.turns.specs.{Attempt.{act, act_in, closing_act}, declared.act.Act.TheVariants.Free}
+use Rattle.turns.specs.{declared.phase.Phase.TheVariants.{Requests, Seizes, Tests, Turns, Withdraws, GivesBack, Operates}, Runs.is_finished, World.place}
+use Rattle.{turns.proofs.Lists.index_other, xbar_equip.specs.declared.conn.Conn.Conn, xbar_plan.specs.Tables.Tables}
+use Rattle.xbar_jobs.specs.{Attempt.{Act, Attempt, Phase}, Office.office, declared.effect.Effect.Effect}
+use Rattle.xbar_moves.{specs.{Exchange.Exchange, Holding.IsAt, Moves.after_step}, proofs.{GivenBack.conn_behind, StepCases.step_made, Worlds.words_are}}
 
 -- past the turn nothing is freed while an effect is left
 none_made : (effects : List Effect) (held : List Conn) (conn : Conn) → closing_act effects held ≡ Free conn → effects ≡ []
@@ -39,7 +27,8 @@ pub frees_when : (a : Attempt) (conn : Conn) → act a ≡ Free conn → (a.phas
 frees_when a conn frees = frees_in a a.phase conn frees
 
 -- the word that is changed is the connector's own
-pub free_spares : (plan : Tables) (e : Exchange) (k number n : ℕ) (a : Attempt) (conn : Conn) → IsAt e k number a → act a ≡ Free conn → n < 416 → slice_index (after_step plan k e).words n ≡ slice_index e.words n
+pub free_spares : (plan : Tables) (e : Exchange) (k number n : ℕ) (a : Attempt) (conn : Conn) → IsAt e k number a → act a ≡ Free conn → n < 416
+    → slice_index (after_step plan k e).words n ≡ slice_index e.words n
 free_spares plan e k number n a conn at frees below =
     let own = ap (λ (next : Act). place (office plan) next) frees in
     let behind = conn_behind plan conn in

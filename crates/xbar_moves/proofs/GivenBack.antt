@@ -1,42 +1,27 @@
 -- what a marker that gives back changes, and what it leaves as it was
-use Rattle.std.proofs.Common.{◌≡◌, ◌≢◌, ℕ, zero, suc, ◌+◌, ◌<◌, ◌≤◌, List, [], ◌∷◌, ◌++◌, append-nil, length, map, slice_index, inl, inr, refl, sym, ◌∙◌, ap, subst, arith}
-use Rattle.std.specs.Prelude.{⊤, Result, Ok, Err, slice_get}
-use Rattle.turns.specs.Among.{IsIn}
+use Rattle.std.proofs.Common.{◌≡◌, ◌≢◌, ℕ, zero, suc, ◌+◌, ◌<◌, ◌≤◌, List, [], ◌∷◌, ◌++◌, append-nil, length, map, slice_index, inl, inr, refl, sym, ◌∙◌, ap}
+use Rattle.std.proofs.Common.{subst, arith, Result, Ok, Err, slice_get}
+use Rattle.{std.specs.Prelude.⊤, turns.specs.{Among.IsIn, Attempt.{act, act_in, changed, forgotten, free_act, giving_back, goes_on, request_in, rest_of}}}
+use Rattle.turns.specs.{Attempt.{restarted, restarted_in}, World.{added_in, place}, declared.answer.Answer.{Answer, TheVariants.{Asked, Seized, Held}}}
+use Rattle.turns.specs.declared.{answer.Answer.TheVariants.{Preferred, Done}, phase.Phase.TheVariants.{Requests, Seizes, Tests, Turns, Withdraws, GivesBack}}
+use Rattle.turns.{specs.declared.{phase.Phase.TheVariants.Operates, wanted.Wanted.{Wanted, TheVariants.{Seize, Test}}}, proofs.Lists.index_other}
+use Rattle.{xbar_equip.specs.{Word.{ConnWord, word_number}, declared.conn.Conn.{Conn, TheVariants.{Llf, Tlf, Group}}}, xbar_plan.specs.Tables.Tables}
+use Rattle.{xbar_office.specs.declared.reply.Record.Record, xbar_jobs.specs.{Attempt.{Attempt, Phase}, Office.office, declared.decision.Decision.Decision}}
+use Rattle.{xbar_jobs.specs.declared.effect.Effect.Effect, xbar_moves.specs.{AtWork.{answer_to_step, IsBackingAt, IsBackingIn}, Exchange.{Exchange, turned}}}
+use Rattle.xbar_moves.specs.{Holding.{Holds, HasRequested, IsAt}, Moves.{after_answer, backed_as, restarted_at, frees_left, given_at, given_back, added_record}}
+use Rattle.xbar_moves.{specs.Moves.{request_count, after_step, steps}, proofs.Backing.{starts_back, back_goes, backing, by_backing, gives_one, left_is}}
+use Rattle.xbar_moves.proofs.{Keeping.{KeepsRestarts, back_keeps, restarts_keep}, Jobs.{one_job, set_at}, Markers.marker_else}
+use Rattle.xbar_moves.proofs.{StepCases.{now_at, step_cases, step_else}, Worlds.{added_at, answer_is, found_by, words_are}}
 use Rattle.turns.specs.Attempt as generic
-use Rattle.turns.specs.Attempt.{act, act_in, changed, forgotten, free_act, giving_back, goes_on, request_in, rest_of, restarted, restarted_in}
-use Rattle.turns.specs.World.{added_in, place}
-use Rattle.turns.specs.declared.answer.Answer.{Answer}
-use Rattle.turns.specs.declared.answer.Answer.TheVariants.{Asked, Seized, Held, Preferred, Done}
-use Rattle.turns.specs.declared.phase.Phase.TheVariants.{Requests, Seizes, Tests, Turns, Withdraws, GivesBack, Operates}
-use Rattle.turns.specs.declared.wanted.Wanted.{Wanted}
-use Rattle.turns.specs.declared.wanted.Wanted.TheVariants.{Seize, Test}
-use Rattle.turns.proofs.Lists.{index_other}
-use Rattle.xbar_equip.specs.Word.{ConnWord, word_number}
-use Rattle.xbar_equip.specs.declared.conn.Conn.{Conn}
-use Rattle.xbar_equip.specs.declared.conn.Conn.TheVariants.{Llf, Tlf, Group}
-use Rattle.xbar_plan.specs.Tables.{Tables}
-use Rattle.xbar_office.specs.declared.reply.Record.{Record}
-use Rattle.xbar_jobs.specs.Attempt.{Attempt, Phase}
-use Rattle.xbar_jobs.specs.Office.{office}
-use Rattle.xbar_jobs.specs.declared.decision.Decision.{Decision}
-use Rattle.xbar_jobs.specs.declared.effect.Effect.{Effect}
-use Rattle.xbar_moves.specs.AtWork.{answer_to_step, IsBackingAt, IsBackingIn}
-use Rattle.xbar_moves.specs.Exchange.{Exchange, turned}
-use Rattle.xbar_moves.specs.Holding.{Holds, HasRequested, IsAt}
-use Rattle.xbar_moves.specs.Moves.{after_answer, backed_as, begun_anew, frees_left, given_at, given_back, added_record, request_count, after_step, steps}
-use Rattle.xbar_moves.specs.declared.given.Given.{Given}
 use Rattle.xbar_moves.specs.declared.given.Given.TheVariants as given
-use Rattle.xbar_moves.proofs.Backing.{anew, back_goes, backing, by_backing, gives_one, left_is}
-use Rattle.xbar_moves.proofs.Keeping.{KeepsRestarts, back_keeps, begun_keeps}
-use Rattle.xbar_moves.proofs.Jobs.{one_job, set_at}
-use Rattle.xbar_moves.proofs.Markers.{marker_else}
-use Rattle.xbar_moves.proofs.StepCases.{now_at, step_cases, step_else}
-use Rattle.xbar_moves.proofs.Worlds.{added_at, answer_is, found_by, words_are}
+use Rattle.xbar_moves.specs.declared.given.Given.{Given}
 
 module _ (plan : Tables) (k : ℕ) (Has : Exchange → Type 0) where
   -- each step of a marker on its way back keeps it
   abbrev KeepsBack : Type 0
-  KeepsBack = (x : Exchange) (n : ℕ) (a : Attempt) → Has x → (at : IsAt x k n a) → IsBackingIn a a.phase → Has (after_answer plan k at.marker n a (answer_to_step k x.words a) x)
+  KeepsBack =
+      (x : Exchange) (n : ℕ) (a : Attempt) → Has x → (at : IsAt x k n a) → IsBackingIn a a.phase
+      → Has (after_answer plan k at.marker n a (answer_to_step k x.words a) x)
 
   -- it is kept, and the marker has nothing left to give up
   record IsBack (x : Exchange) : Type 0 where
@@ -63,14 +48,15 @@ module _ (plan : Tables) (k : ℕ) (Has : Exchange → Type 0) where
 
     module _ (restarts : KeepsRestarts plan Has k) where
       -- a marker that may gives back all
-      gave_back : (e : Exchange) → Has e → given_at e k ≡ given.Given → IsBack (steps plan k (frees_left e k) (begun_anew plan k e))
-      gave_back e has gives = let now = anew plan e k gives in all_back (frees_left e k) (begun_anew plan k e) now.0 now.1 (begun_keeps plan Has k restarts e has)
+      gave_back : (e : Exchange) → Has e → given_at e k ≡ given.Given → IsBack (steps plan k (frees_left e k) (restarted_at plan k e))
+      gave_back e has gives = let now = starts_back plan e k gives in
+          all_back (frees_left e k) (restarted_at plan k e) now.0 now.1 (restarts_keep plan Has k restarts e has)
 
       -- and any other changes nothing
       back_has : (e : Exchange) → Has e → Has (given_back plan k e)
       unfolding given_back
       back_has e has = by (given_at e k) refl where
-        by : (what : Given) → given_at e k ≡ what → Has (backed_as what (steps plan k (frees_left e k) (begun_anew plan k e)) e)
+        by : (what : Given) → given_at e k ≡ what → Has (backed_as what (steps plan k (frees_left e k) (restarted_at plan k e)) e)
         by given.Given gives = (gave_back e has gives).has
         by given.PastTurn is = has
         by given.Idle is = has
@@ -79,7 +65,9 @@ module _ (plan : Tables) (e : Exchange) (k : ℕ) where
   module _ (conn : Conn) (gives : given_at e k ≡ given.Given) where
     -- a marker that gives back has nothing left to give up
     none_left : frees_left (given_back plan k e) k ≡ 0
-    none_left = ap (λ (x : Exchange). frees_left x k) (back_goes plan e k gives) ∙ (gave_back plan k (λ x. ⊤) (λ x n a has at backs. tt) (λ x n a has at. tt) e tt gives).none
+    none_left =
+        ap (λ (x : Exchange). frees_left x k) (back_goes plan e k gives)
+        ∙ (gave_back plan k (λ x. ⊤) (λ x n a has at backs. tt) (λ x n a has at. tt) e tt gives).none
 
     bare : (number : ℕ) (a : Attempt) → IsAt (given_back plan k e) k number a → request_count (request_in a.phase) + length a.held ≡ 0
     bare number a at = sym (left_is (given_back plan k e) k number a at) ∙ none_left
@@ -153,7 +141,8 @@ module _ (plan : Tables) where
   back_records k n words a backs =
       let found : ℕ = found_by plan words a in
       ap (added_record k n a) (answer_is plan k words a)
-      ∙ no_records (added_record k n a (generic.answer_to (office plan) k (act a) found)) (added_at plan k n found a a.phase ∙ adds_none k n found a a.phase backs)
+      ∙ no_records (added_record k n a (generic.answer_to (office plan) k (act a) found))
+      (added_at plan k n found a a.phase ∙ adds_none k n found a a.phase backs)
 
   -- and its steps are on words of connectors, after the protected ones
   pub conn_behind : (conn : Conn) → 416 ≤ word_number (ConnWord conn)
@@ -186,7 +175,8 @@ module _ (plan : Tables) where
     -- and keeps its job, under its number
     pub job_stays : (number : ℕ) (a : Attempt) → IsAt e k number a → (b : Attempt) × IsAt (given_back plan k e) k number b × (b.job ≡ a.job)
     job_stays number a at = back_has plan k Has
-        (λ x n c has here backs. goes x n c has here _ _ (now_at plan x k n c (answer_to_step k x.words c) here) (back_job c c.phase (answer_to_step k x.words c) backs))
+        (λ x n c has here backs. goes x n c has here _ _ (now_at plan x k n c (answer_to_step k x.words c) here)
+        (back_job c c.phase (answer_to_step k x.words c) backs))
         (λ x n c has here. goes x n c has here _ _ (set_at x k n here.marker (restarted (office plan) c) here.there) (anew_job c c.phase))
         e (a, at, refl) where
           Has : Exchange → Type 0

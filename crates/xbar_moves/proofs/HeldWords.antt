@@ -1,41 +1,20 @@
 -- what a marker tests or changes is under what it holds, whatever the plan
-use Rattle.std.proofs.Common.{◌≡◌, ℕ, List, [], ◌∷◌, map, slice_index, inl, inr, refl, sym, ◌∙◌, ap, subst, arith}
-use Rattle.std.specs.Prelude.{Some, slice_get}
+use Rattle.std.proofs.Common.{◌≡◌, ℕ, List, [], ◌∷◌, map, slice_index, inl, inr, refl, sym, ◌∙◌, ap, subst, arith, Some, slice_get}
 use Rattle.std.proofs.lemmas.Option.{slice_get-map}
-use Rattle.turns.specs.Among.{IsIn}
-use Rattle.turns.specs.Attempt.{act, act_in, closing_act, free_act}
-use Rattle.turns.specs.Law.{FitsIn, IsOperating, IsRecorded}
-use Rattle.turns.specs.System.{AreUnder, IsUnder}
+use Rattle.turns.specs.{Among.IsIn, Attempt.{act, act_in, closing_act, free_act}, Law.{FitsIn, IsOperating, IsRecorded}, System.{AreUnder, IsUnder}}
+use Rattle.turns.specs.{World.place, declared.phase.Phase.TheVariants.{Requests, Seizes, Tests, Turns, Withdraws, GivesBack, Operates}}
+use Rattle.{turns.proofs.Lists.index_other, xbar_equip.{specs.{Word.{ConnWord, protector, word_number}, declared.conn.Conn.Conn}, proofs.WordNumbers.distinct}}
+use Rattle.{xbar_plan.specs.Tables.Tables, xbar_office.specs.{Legal.after, declared.{job.Job.Job, reply.Reply.Reply}}}
+use Rattle.xbar_jobs.specs.{Attempt.{Attempt, Phase, next_step}, Office.{Protects, ShowsOffice, office}, OnWords.step_word, declared.effect.Effect.Effect}
+use Rattle.xbar_jobs.proofs.{Covered.protected_below, StepActs.act_word}
+use Rattle.xbar_moves.specs.{Exchange.{Exchange, IsLawfulExchange, turned, world}, Holding.{Holds, IsAt}, Links.IsPastTurn, Moves.after_step}
+use Rattle.xbar_moves.proofs.{Actors.actor_at, FinishedJobs.{IsTurn, turn_there}, GivenBack.conn_behind, MadeEffects.made_show, StepCases.step_cases}
 use Rattle.turns.specs.World as worlds
-use Rattle.turns.specs.World.{place}
-use Rattle.turns.specs.declared.phase.Phase.TheVariants.{Requests, Seizes, Tests, Turns, Withdraws, GivesBack, Operates}
-use Rattle.turns.proofs.Lists.{index_other}
-use Rattle.xbar_equip.specs.Word.{ConnWord, protector, word_number}
-use Rattle.xbar_equip.specs.declared.conn.Conn.{Conn}
-use Rattle.xbar_equip.proofs.WordNumbers.{distinct}
-use Rattle.xbar_plan.specs.Tables.{Tables}
-use Rattle.xbar_office.specs.Legal.{after}
-use Rattle.xbar_office.specs.declared.job.Job.{Job}
-use Rattle.xbar_office.specs.declared.reply.Reply.{Reply}
-use Rattle.xbar_jobs.specs.Attempt.{Attempt, Phase, next_step}
-use Rattle.xbar_jobs.specs.Office.{Protects, ShowsOffice, office}
-use Rattle.xbar_jobs.specs.OnWords.{step_word}
-use Rattle.xbar_jobs.specs.declared.effect.Effect.{Effect}
-use Rattle.xbar_jobs.proofs.Covered.{protected_below}
-use Rattle.xbar_jobs.proofs.StepActs.{act_word}
-use Rattle.xbar_moves.specs.Exchange.{Exchange, IsLawfulExchange, turned, world}
-use Rattle.xbar_moves.specs.Holding.{Holds, IsAt}
-use Rattle.xbar_moves.specs.Links.{IsPastTurn}
-use Rattle.xbar_moves.specs.Moves.{after_step}
-use Rattle.xbar_moves.proofs.Actors.{actor_at}
-use Rattle.xbar_moves.proofs.FinishedJobs.{IsTurn, turn_there}
-use Rattle.xbar_moves.proofs.GivenBack.{conn_behind}
-use Rattle.xbar_moves.proofs.MadeEffects.{made_show}
-use Rattle.xbar_moves.proofs.StepCases.{step_cases}
 
 module _ (plan : Tables) where
   -- a record of a marker's turn is that of its attempt past the turn
-  pub past_turn : (e : Exchange) (k number turn : ℕ) (a : Attempt) → IsAt e k number a → a.phase ≡ Operates turn → (known : IsRecorded (office plan) (map turned e.records) k number turn a) → IsTurn e.records known.place known.recorded → IsPastTurn e k known.place a
+  pub past_turn : (e : Exchange) (k number turn : ℕ) (a : Attempt) → IsAt e k number a → a.phase ≡ Operates turn
+      → (known : IsRecorded (office plan) (map turned e.records) k number turn a) → IsTurn e.records known.place known.recorded → IsPastTurn e k known.place a
   past_turn e k number turn a at past known found = record {
     number = number;
     at = at;
@@ -61,7 +40,8 @@ module _ (plan : Tables) where
 
   -- no connector's own word is protected, nor is the turn word
   conn_bare : (own conn : Conn) → ¬ Protects conn (word_number (ConnWord own))
-  conn_bare own conn protects = let below = protected_below conn (word_number (ConnWord own)) protects in let behind = conn_behind plan own in omega (arith, below, behind)
+  conn_bare own conn protects = let below = protected_below conn (word_number (ConnWord own)) protects in let behind = conn_behind plan own in
+      omega (arith, below, behind)
 
   turn_bare : (conn : Conn) → ¬ Protects conn 452
   turn_bare conn protects = let below = protected_below conn 452 protects in omega (arith, below)
@@ -70,7 +50,8 @@ module _ (plan : Tables) where
   free_bare [] conn protects = turn_bare conn protects
   free_bare (own ∷ held) conn protects = conn_bare own conn protects
 
-  close_held : (effects : List Effect) (held : List Conn) (conn : Conn) → AreUnder (office plan) held effects → Protects conn (place (office plan) (closing_act effects held)) → IsIn conn held
+  close_held : (effects : List Effect) (held : List Conn) (conn : Conn) → AreUnder (office plan) held effects
+      → Protects conn (place (office plan) (closing_act effects held)) → IsIn conn held
   close_held [] held conn under protects = absurd (free_bare held conn protects)
   close_held (effect ∷ effects) held conn under protects = under_held _ held conn (under effect (inl refl)) protects
 
@@ -110,7 +91,12 @@ module _ (plan : Tables) where
       | inl same ↦ ap (λ (x : Exchange). slice_index x.words n) same
       | inr made ↦
           ap (λ (x : Exchange). slice_index x.words n) made.is
-          ∙ index_other e.words _ n _ (λ same. free (record { number = made.number; attempt = made.attempt; at = made.at; held = holds_alone k made.number made.attempt made.at conn (subst (Protects conn) same protects) }))
+          ∙ index_other e.words _ n _ (λ same. free (record {
+            number = made.number;
+            attempt = made.attempt;
+            at = made.at;
+            held = holds_alone k made.number made.attempt made.at conn (subst (Protects conn) same protects);
+          }))
     ]
 
     -- a marker past its turn has its record in the order
@@ -118,7 +104,9 @@ module _ (plan : Tables) where
     past_recorded k number turn a at past =
         let fits : IsOperating (office plan) e.words (map turned e.records) k number turn a = fits_in k number a at (Operates turn) past in
         let known : IsRecorded (office plan) (map turned e.records) k number turn a = fits.recorded in
-        let found : IsTurn e.records known.place known.recorded = turn_there e.records known.place known.recorded (slice_get e.records known.place) refl (sym (slice_get-map turned e.records known.place) ∙ known.at_place) in (
+        let found : IsTurn e.records known.place known.recorded =
+        turn_there e.records known.place known.recorded (slice_get e.records known.place) refl
+        (sym (slice_get-map turned e.records known.place) ∙ known.at_place) in (
           known.place,
           past_turn e k number turn a at past known found,
         )

@@ -1,16 +1,8 @@
 -- an idle marker has no effect left, so if all are idle the words show the set after the records
-use Rattle.std.proofs.Common.{◌≡◌, ℕ, List, [], ◌∷◌, true, refl, sym, ◌∙◌, ap}
-use Rattle.std.specs.Prelude.{Some, slice_get}
-use Rattle.turns.specs.Attempt.{act_in, closing_act}
-use Rattle.turns.specs.Runs.{is_finished}
-use Rattle.xbar_equip.specs.declared.conn.Conn.{Conn}
-use Rattle.xbar_plan.specs.Tables.{Tables}
-use Rattle.xbar_office.specs.Legal.{after}
-use Rattle.xbar_jobs.specs.Attempt.{Phase}
-use Rattle.xbar_jobs.specs.Office.{ShowsOffice}
-use Rattle.xbar_jobs.specs.declared.effect.Effect.{Effect}
-use Rattle.xbar_moves.specs.Exchange.{Exchange, IsLawfulExchange, Marker, is_idle}
-use Rattle.xbar_moves.proofs.MadeEffects.{AreMade, made_show}
+use Rattle.std.proofs.Common.{◌≡◌, ℕ, List, [], ◌∷◌, true, refl, sym, ◌∙◌, ap, Some, slice_get}
+use Rattle.{turns.specs.{Attempt.{act_in, closing_act}, Runs.is_finished}, xbar_equip.specs.declared.conn.Conn.Conn, xbar_plan.specs.Tables.Tables}
+use Rattle.{xbar_office.specs.Legal.after, xbar_jobs.specs.{Attempt.Phase, Office.ShowsOffice, declared.effect.Effect.Effect}}
+use Rattle.xbar_moves.{specs.Exchange.{Exchange, IsLawfulExchange, Marker, is_idle}, proofs.MadeEffects.{AreMade, made_show}}
 
 -- past the turn, if nothing is left, no effect is left
 none_left : (effects : List Effect) (held : List Conn) → is_finished (closing_act effects held) ≡ true → effects ≡ []

@@ -1,20 +1,11 @@
 -- what holds of something of a marker, or of its job, whichever is there
-use Rattle.std.proofs.Common.{◌≡◌, ℕ, refl, sym, ◌∙◌, ap, subst}
-use Rattle.std.specs.Prelude.{Option, Some, None, slice_get}
-use Rattle.std.proofs.lemmas.Option.{same_Some}
-use Rattle.turns.specs.Attempt.{begin_with, restarted, turn_in}
-use Rattle.turns.specs.World.{Idle, Does}
-use Rattle.turns.specs.declared.phase.Phase.TheVariants.{Requests, Seizes, Tests, Turns, Withdraws, GivesBack, Operates}
-use Rattle.xbar_plan.specs.Tables.{Tables}
-use Rattle.xbar_office.specs.declared.job.Job.{Job}
-use Rattle.xbar_jobs.specs.Attempt.{Attempt, Phase}
-use Rattle.xbar_jobs.specs.Jobs.{first_conn}
-use Rattle.xbar_jobs.specs.Office.{office}
-use Rattle.xbar_moves.specs.Exchange.{Exchange, Marker, Work, at_marker, on_job}
-use Rattle.xbar_moves.specs.Holding.{IsAt}
-use Rattle.xbar_moves.specs.Moves.{assigned, begun_anew, given_at, given_by, with_work, work_anew}
+use Rattle.std.proofs.Common.{◌≡◌, ℕ, refl, sym, ◌∙◌, ap, subst, Option, Some, None, slice_get}
+use Rattle.{std.proofs.lemmas.Option.same_Some, turns.specs.{Attempt.{begin_with, restarted, turn_in}, World.{Idle, Does}}}
+use Rattle.{turns.specs.declared.phase.Phase.TheVariants.{Requests, Seizes, Tests, Turns, Withdraws, GivesBack, Operates}, xbar_plan.specs.Tables.Tables}
+use Rattle.{xbar_office.specs.declared.job.Job.Job, xbar_jobs.specs.{Attempt.{Attempt, Phase}, Jobs.first_conn, Office.office}}
+use Rattle.xbar_moves.specs.{Exchange.{Exchange, Marker, Work, at_marker, on_job}, Holding.IsAt}
+use Rattle.xbar_moves.{specs.Moves.{assigned, restarted_at, given_at, given_by, with_work, restarted_work}, proofs.Markers.marker_set}
 use Rattle.xbar_moves.specs.declared.given.Given.TheVariants as given
-use Rattle.xbar_moves.proofs.Markers.{marker_set}
 
 pub at_marker_has : {A : Type 0} (Has : A → Type 0) (otherwise : A) (of_marker : Marker → A) (found : Option Marker)
     → Has otherwise → ((m : Marker) → found ≡ Some m → Has (of_marker m)) → Has (at_marker otherwise of_marker found)
@@ -45,15 +36,16 @@ module _ (e : Exchange) (k : ℕ) (m : Marker) (there : slice_get e.markers k �
   assigned_is n job = ap (at_marker e (λ o. with_work k o (Does n (begin_with (first_conn job) job)) e)) there
 
   -- it begins anew, and it is asked whether it gives back
-  pub begun_is : (plan : Tables) → begun_anew plan k e ≡ with_work k m (work_anew plan m.work) e
-  begun_is plan = ap (at_marker e (λ o. with_work k o (work_anew plan o.work) e)) there
+  pub restarted_is : (plan : Tables) → restarted_at plan k e ≡ with_work k m (restarted_work plan m.work) e
+  restarted_is plan = ap (at_marker e (λ o. with_work k o (restarted_work plan o.work) e)) there
 
   pub given_is : given_at e k ≡ given_by m.work
   given_is = ap (at_marker given.Idle (λ o. given_by o.work)) there
 
 -- so a job that is there begins anew
-pub begun_at : (plan : Tables) (e : Exchange) (k n : ℕ) (a : Attempt) (at : IsAt e k n a) → begun_anew plan k e ≡ with_work k at.marker (Does n (restarted (office plan) a)) e
-begun_at plan e k n a at = begun_is e k at.marker at.there plan ∙ ap (λ (work : Work). with_work k at.marker (work_anew plan work) e) at.work
+pub restarted_at_is : (plan : Tables) (e : Exchange) (k n : ℕ) (a : Attempt) (at : IsAt e k n a)
+    → restarted_at plan k e ≡ with_work k at.marker (Does n (restarted (office plan) a)) e
+restarted_at_is plan e k n a at = restarted_is e k at.marker at.there plan ∙ ap (λ (work : Work). with_work k at.marker (restarted_work plan work) e) at.work
 
 -- a marker is at one attempt
 pub work_at : (e : Exchange) (k n : ℕ) (a : Attempt) (m : Marker) → IsAt e k n a → slice_get e.markers k ≡ Some m → m.work ≡ Does n a
@@ -68,8 +60,10 @@ one_job e k n j a b at other =
 pub set_at : (e : Exchange) (k n : ℕ) (m : Marker) (a : Attempt) → slice_get e.markers k ≡ Some m → IsAt (with_work k m (Does n a) e) k n a
 set_at e k n m a there = record { marker = record m { work = Does n a }; there = marker_set e.markers k _ m there; work = refl }
 
-pub anew_at : (plan : Tables) (e : Exchange) (k n : ℕ) (a : Attempt) → IsAt e k n a → IsAt (begun_anew plan k e) k n (restarted (office plan) a)
-anew_at plan e k n a at = subst (λ (x : Exchange). IsAt x k n (restarted (office plan) a)) (sym (begun_at plan e k n a at)) (set_at e k n at.marker (restarted (office plan) a) at.there)
+pub restarted_job : (plan : Tables) (e : Exchange) (k n : ℕ) (a : Attempt) → IsAt e k n a → IsAt (restarted_at plan k e) k n (restarted (office plan) a)
+restarted_job plan e k n a at =
+    subst (λ (x : Exchange). IsAt x k n (restarted (office plan) a)) (sym (restarted_at_is plan e k n a at))
+    (set_at e k n at.marker (restarted (office plan) a) at.there)
 
 -- what has turned is past its turn
 pub past_turn : (phase : Phase) (turn : ℕ) → turn_in phase ≡ Some turn → phase ≡ Operates turn

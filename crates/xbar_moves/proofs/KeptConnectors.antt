@@ -1,18 +1,10 @@
 -- an attempt keeps what it holds until it frees it
 use Rattle.std.proofs.Common.{◌≢◌, List, [], ◌∷◌, ◌++◌, inl, inr, sym, ap, subst}
-use Rattle.turns.specs.Among.{IsIn}
-use Rattle.turns.specs.Attempt.{act, act_in, change, changed, closing_act, free_act, giving_back, operated, rest_of, walks_on}
-use Rattle.turns.specs.declared.act.Act.TheVariants.{Free}
-use Rattle.turns.specs.declared.answer.Answer.{Answer}
-use Rattle.turns.specs.declared.answer.Answer.TheVariants.{Asked, Seized, Held, Preferred, Again, Value, Turn, Done}
+use Rattle.turns.specs.{Among.IsIn, Attempt.{act, act_in, change, changed, closing_act, free_act, giving_back, operated, rest_of, walks_on}}
+use Rattle.turns.specs.declared.{act.Act.TheVariants.Free, answer.Answer.{Answer, TheVariants.{Asked, Seized, Held, Preferred, Again, Value, Turn, Done}}}
 use Rattle.turns.specs.declared.phase.Phase.TheVariants.{Requests, Seizes, Tests, Turns, Withdraws, GivesBack, Operates}
-use Rattle.turns.proofs.Lists.{in_front}
-use Rattle.turns.proofs.Sound.{freed_held, walks_held}
-use Rattle.xbar_equip.specs.declared.conn.Conn.{Conn}
-use Rattle.xbar_plan.specs.Tables.{Tables}
-use Rattle.xbar_jobs.specs.Attempt.{Attempt, Phase}
-use Rattle.xbar_jobs.specs.Office.{office}
-use Rattle.xbar_jobs.specs.declared.effect.Effect.{Effect}
+use Rattle.{turns.proofs.{Lists.in_front, Sound.{freed_held, walks_held}}, xbar_equip.specs.declared.conn.Conn.Conn, xbar_plan.specs.Tables.Tables}
+use Rattle.xbar_jobs.specs.{Attempt.{Attempt, Phase}, Office.office, declared.effect.Effect.Effect}
 
 -- but for the one that it frees it keeps all
 kept_freed : (conn : Conn) (held : List Conn) → IsIn conn held → free_act {Effect = Effect} held ≢ Free conn → IsIn conn (rest_of held)
@@ -20,7 +12,8 @@ kept_freed conn [] within other = absurd within
 kept_freed conn (first ∷ held) (inl same) other = absurd (other (ap Free (sym same)))
 kept_freed conn (first ∷ held) (inr later) other = later
 
-kept_operated : (a : Attempt) (conn : Conn) (effects : List Effect) → IsIn conn a.held → closing_act effects a.held ≢ Free conn → IsIn conn (operated a effects).held
+kept_operated : (a : Attempt) (conn : Conn) (effects : List Effect) → IsIn conn a.held → closing_act effects a.held ≢ Free conn
+    → IsIn conn (operated a effects).held
 kept_operated a conn [] within other = kept_freed conn a.held within other
 kept_operated a conn (effect ∷ effects) within other = within
 
@@ -32,7 +25,8 @@ module _ (plan : Tables) where
   kept_on a conn within = subst (IsIn conn) (sym (walks_held (office plan) a)) within
 
   -- whatever the answer and the phase
-  kept_in : (a : Attempt) (phase : Phase) (answer : Answer) (conn : Conn) → IsIn conn a.held → act_in phase a ≢ Free conn → IsIn conn (changed (office plan) a phase answer).held
+  kept_in : (a : Attempt) (phase : Phase) (answer : Answer) (conn : Conn) → IsIn conn a.held → act_in phase a ≢ Free conn
+      → IsIn conn (changed (office plan) a phase answer).held
   kept_in a (Requests asked) (Asked word) conn within other = within
   kept_in a (Requests asked) Seized conn within other =
       kept_on (record a { held = a.held ++ asked ∷ [] }) conn (in_front conn a.held (asked ∷ []) within)

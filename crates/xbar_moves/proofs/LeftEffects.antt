@@ -1,22 +1,11 @@
 -- what effects make of the field of a closed crosspoint
 use Rattle.std.proofs.Common.{◌≡◌, ◌≢◌, ℕ, ◌<◌, ◌≤◌, ◌⊎◌, List, [], ◌∷◌, length, map, slice_index, inl, inr, refl, sym, ◌∙◌, ap, subst, arith, length-set}
-use Rattle.std.proofs.lemmas.Bool.{cases_eq}
-use Rattle.turns.specs.Among.{IsIn}
-use Rattle.turns.specs.System.{AreDue, perform, perform_all}
-use Rattle.turns.proofs.Completed.{made_else, made_here}
-use Rattle.turns.proofs.Lists.{index_other}
-use Rattle.xbar_equip.specs.declared.crosspoint.Crosspoint.{Crosspoint}
-use Rattle.xbar_switch.specs.Field.{field_of}
-use Rattle.xbar_switch.proofs.Fields.{field_of-open_same, field_of-open_other}
-use Rattle.xbar_match.specs.Effects.{IsCrosspoint, opened_word}
-use Rattle.xbar_match.specs.Switches.{held_at, shape_at}
-use Rattle.xbar_match.proofs.OneField.{held_at-close_other, held_at-open_other}
-use Rattle.xbar_plan.specs.Tables.{Tables}
-use Rattle.xbar_jobs.specs.Closing.{IsDue, effect_on, effect_word, value_after as made_of}
-use Rattle.xbar_jobs.specs.Keeping.{AreEffects, IsEffect}
-use Rattle.xbar_jobs.specs.Office.{office}
-use Rattle.xbar_jobs.specs.declared.effect.Effect.{Effect}
-use Rattle.xbar_jobs.specs.declared.effect.Effect.TheVariants.{Close, Open, SetBit, ClearBit}
+use Rattle.{std.proofs.lemmas.Bool.cases_eq, turns.specs.{Among.IsIn, System.{AreDue, perform, perform_all}}}
+use Rattle.{turns.proofs.{Completed.{made_else, made_here}, Lists.index_other}, xbar_equip.specs.declared.crosspoint.Crosspoint.Crosspoint}
+use Rattle.xbar_switch.{specs.Field.field_of, proofs.Fields.{field_of-open_same, field_of-open_other}}
+use Rattle.xbar_match.{specs.{Effects.{IsCrosspoint, opened_word}, Switches.{held_at, shape_at}}, proofs.OneField.{held_at-close_other, held_at-open_other}}
+use Rattle.{xbar_plan.specs.Tables.Tables, xbar_jobs.specs.{Closing.{IsDue, effect_on, effect_word, value_after as made_of}, Keeping.{AreEffects, IsEffect}}}
+use Rattle.xbar_jobs.specs.{Office.office, declared.effect.Effect.{Effect, TheVariants.{Close, Open, SetBit, ClearBit}}}
 
 -- two crosspoints are at one field, or not
 one_field : (c d : Crosspoint) → ((c.word ≡ d.word) × (c.field ≡ d.field)) ⊎ (c.word ≡ d.word → c.field ≢ d.field)
@@ -39,7 +28,8 @@ module _ (plan : Tables) (c : Crosspoint) (below : c.word < 400) (range : c.fiel
     by_close : (d : Crosspoint) → IsCrosspoint d → held_at words d.word d.field ≡ 0 → OpensBy words (Close d)
     by_close d is due = elim (one_field c d) [
       | inl same ↦
-          let here : held_at words c.word c.field ≡ held_at words d.word d.field = ap (λ n. held_at words n c.field) same.0 ∙ ap (held_at words d.word) same.1 in
+          let here : held_at words c.word c.field ≡ held_at words d.word d.field =
+          ap (λ n. held_at words n c.field) same.0 ∙ ap (held_at words d.word) same.1 in
           let nothing : c.value ≡ 0 = sym closed ∙ here ∙ due in
           absurd (omega (arith, nothing, more))
       | inr other ↦ inr ((λ same. cc), held_at-close_other words d c.word c.field long is other ∙ closed)
@@ -49,7 +39,8 @@ module _ (plan : Tables) (c : Crosspoint) (below : c.word < 400) (range : c.fiel
     by_open : (d : Crosspoint) → IsCrosspoint d → held_at words d.word d.field ≡ d.value → OpensBy words (Open d)
     by_open d is due = elim (one_field c d) [
       | inl same ↦
-          let here : held_at words c.word c.field ≡ held_at words d.word d.field = ap (λ n. held_at words n c.field) same.0 ∙ ap (held_at words d.word) same.1 in
+          let here : held_at words c.word c.field ≡ held_at words d.word d.field =
+          ap (λ n. held_at words n c.field) same.0 ∙ ap (held_at words d.word) same.1 in
           let value : c.value ≡ d.value = sym closed ∙ here ∙ due in
           inl (λ i. Open (record { word = same.0 i; field = same.1 i; value = value i }))
       | inr other ↦ inr (
@@ -69,7 +60,8 @@ module _ (plan : Tables) (c : Crosspoint) (below : c.word < 400) (range : c.fiel
     by_one (ClearBit number index) is due = inr ((λ same. cc), by_bit (ClearBit number index) (λ same. omega (arith, same, below)))
 
   -- effects that are due open a closed crosspoint, or leave it closed
-  pub opens_or_stays : (words : List ℕ) (effects : List Effect) → 400 ≤ length words → AreEffects effects → AreDue (office plan) words effects → held_at words c.word c.field ≡ c.value → Opens words effects
+  pub opens_or_stays : (words : List ℕ) (effects : List Effect) → 400 ≤ length words → AreEffects effects → AreDue (office plan) words effects
+      → held_at words c.word c.field ≡ c.value → Opens words effects
   unfolding perform_all
   opens_or_stays words [] long are due closed = inr ((λ none. none), closed)
   opens_or_stays words (effect ∷ effects) long are due closed = elim (by_one words long closed effect (are effect (inl refl)) due.0) [
@@ -91,7 +83,8 @@ module _ (plan : Tables) (n v : ℕ) (range : v < 10) where
 
   -- one crosspoint more, which was opened first
   one_more : (d : Crosspoint) (cs : List Crosspoint) (word after : ℕ) → made_of (map Open (d ∷ cs)) n word ≡ made_of (map Open cs) n after
-      → (field_of (shape_at n) after v ≡ 0) ⊎ ((field_of (shape_at n) after v ≡ field_of (shape_at n) word v) × (d.word ≡ n → d.field ≢ v)) → IsSpared cs after → IsSpared (d ∷ cs) word
+      → (field_of (shape_at n) after v ≡ 0) ⊎ ((field_of (shape_at n) after v ≡ field_of (shape_at n) word v) × (d.word ≡ n → d.field ≢ v)) → IsSpared cs after
+      → IsSpared (d ∷ cs) word
   one_more d cs word after same first (inl opened) = inl (ap (λ x. field_of (shape_at n) x v) same ∙ opened)
   one_more d cs word after same (inl opened) (inr spared) = inl (ap (λ x. field_of (shape_at n) x v) same ∙ spared.0 ∙ opened)
   one_more d cs word after same (inr first) (inr spared) = inr (
@@ -100,11 +93,15 @@ module _ (plan : Tables) (n v : ℕ) (range : v < 10) where
   )
 
   -- what one crosspoint on the word makes of it
-  opened_here : (d : Crosspoint) (word : ℕ) → IsCrosspoint d → d.word ≡ n → (field_of (shape_at n) (opened_word d word) v ≡ 0) ⊎ ((field_of (shape_at n) (opened_word d word) v ≡ field_of (shape_at n) word v) × (d.word ≡ n → d.field ≢ v))
+  opened_here : (d : Crosspoint) (word : ℕ) → IsCrosspoint d → d.word ≡ n
+      → (field_of (shape_at n) (opened_word d word) v ≡ 0)
+      ⊎ ((field_of (shape_at n) (opened_word d word) v ≡ field_of (shape_at n) word v) × (d.word ≡ n → d.field ≢ v))
   opened_here d word is here = elim (cases_eq v d.field) [
-    | inl same ↦ inl (ap (λ m. field_of (shape_at m) (opened_word d word) v) (sym here) ∙ ap (field_of (shape_at d.word) (opened_word d word)) same ∙ field_of-open_same (shape_at d.word) word d.field is.field)
+    | inl same ↦ inl (ap (λ m. field_of (shape_at m) (opened_word d word) v) (sym here) ∙ ap (field_of (shape_at d.word) (opened_word d word)) same
+        ∙ field_of-open_same (shape_at d.word) word d.field is.field)
     | inr other ↦ inr (
-      subst (λ (m : ℕ). field_of (shape_at m) (opened_word d word) v ≡ field_of (shape_at m) word v) here (field_of-open_other (shape_at d.word) word d.field v is.field range other),
+      subst (λ (m : ℕ). field_of (shape_at m) (opened_word d word) v ≡ field_of (shape_at m) word v) here
+          (field_of-open_other (shape_at d.word) word d.field v is.field range other),
       λ there same. other (sym same),
     )
   ]
@@ -113,6 +110,8 @@ module _ (plan : Tables) (n v : ℕ) (range : v < 10) where
   pub spared : (cs : List Crosspoint) (word : ℕ) → ((d : Crosspoint) → IsIn d cs → IsCrosspoint d) → IsSpared cs word
   spared [] word are = inr (refl, λ d none. absurd none)
   spared (d ∷ cs) word are = elim (cases_eq d.word n) [
-    | inl here ↦ one_more d cs word (opened_word d word) (made_here (office plan) (Open d) (map Open cs) n word here) (opened_here d word (are d (inl refl)) here) (spared cs (opened_word d word) (λ x within. are x (inr within)))
-    | inr other ↦ one_more d cs word word (made_else (office plan) (Open d) (map Open cs) n word other) (inr (refl, λ here. absurd (other here))) (spared cs word (λ x within. are x (inr within)))
+    | inl here ↦ one_more d cs word (opened_word d word) (made_here (office plan) (Open d) (map Open cs) n word here)
+        (opened_here d word (are d (inl refl)) here) (spared cs (opened_word d word) (λ x within. are x (inr within)))
+    | inr other ↦ one_more d cs word word (made_else (office plan) (Open d) (map Open cs) n word other) (inr (refl, λ here. absurd (other here)))
+        (spared cs word (λ x within. are x (inr within)))
   ]

@@ -1,16 +1,10 @@
 -- which crosspoints are at a link, and of which paths they are
 use Rattle.std.proofs.Common.{◌≡◌, ℕ, inl, inr, refl, sym, ◌∙◌, ap, subst, arith}
-use Rattle.turns.specs.Among.{IsIn}
-use Rattle.xbar_equip.specs.Crosspoint.{crosspoints}
-use Rattle.xbar_equip.specs.Link.{Link}
-use Rattle.xbar_equip.specs.Path.{IsPath, line_link, junctor, trunk_link}
-use Rattle.xbar_equip.specs.declared.crosspoint.Crosspoint.{Crosspoint}
-use Rattle.xbar_equip.specs.declared.link.LinkKind.TheVariants.{LineLink, Junctor, TrunkLink}
-use Rattle.xbar_equip.specs.declared.path.Path.{Path}
+use Rattle.{turns.specs.Among.IsIn, xbar_equip.specs.{Crosspoint.crosspoints, Link.Link, Path.{IsPath, line_link, junctor, trunk_link}}}
+use Rattle.xbar_equip.specs.declared.{crosspoint.Crosspoint.Crosspoint, link.LinkKind.TheVariants.{LineLink, Junctor, TrunkLink}, path.Path.Path}
 use Rattle.xbar_equip.proofs.Meeting.{HasLink}
 use Rattle.xbar_match.proofs.PathCrosspoints.{AtLineJunctor, AtTrunkJunctor, Which, at_line_junctor, at_line_switch, at_trunk_junctor, at_trunk_switch, which}
-use Rattle.xbar_match.proofs.PathEffects.{line_of, line_junctor_of, trunk_junctor_of, trunk_of}
-use Rattle.xbar_moves.specs.Links.{IsAtLink, Joint, joints}
+use Rattle.{xbar_match.proofs.PathEffects.{line_of, line_junctor_of, trunk_junctor_of, trunk_of}, xbar_moves.specs.Links.{IsAtLink, Joint, joints}}
 
 -- a link of a path has its kind
 line_linked : (p q : Path) → HasLink q (line_link p) → line_link q ≡ line_link p
@@ -45,14 +39,28 @@ module _ (p q : Path) (in_p : IsPath p) (in_q : IsPath q) (c : Crosspoint) (is :
         λ i. record { kind = LineLink; frame = on_line_side.frame i; at = switch i; channel = on_line_side.channel i }
 
     before_junctor : junctor q ≡ junctor p
-    before_junctor = λ i. record { kind = Junctor; frame = on_line_side.frame i; at = (on_line_side.trunk_frame ∙ ap (λ (x : Crosspoint). x.field) same) i; channel = on_line_side.channel i }
+    before_junctor =
+        λ i.
+        record {
+          kind = Junctor;
+          frame = on_line_side.frame i;
+          at = (on_line_side.trunk_frame ∙ ap (λ (x : Crosspoint). x.field) same) i;
+          channel = on_line_side.channel i;
+        }
 
   module _ (same : c ≡ trunk_junctor_of p) where
     on_trunk_side : AtTrunkJunctor q p.place.frame p.channel c.field c.value
     on_trunk_side = at_trunk_junctor q c p.place.frame p.channel in_q in_p.place.frame in_p.channel (ap (λ (x : Crosspoint). x.word) same) is
 
     after_junctor : junctor q ≡ junctor p
-    after_junctor = λ i. record { kind = Junctor; frame = (on_trunk_side.line_frame ∙ ap (λ (x : Crosspoint). x.field) same) i; at = on_trunk_side.frame i; channel = on_trunk_side.channel i }
+    after_junctor =
+        λ i.
+        record {
+          kind = Junctor;
+          frame = (on_trunk_side.line_frame ∙ ap (λ (x : Crosspoint). x.field) same) i;
+          at = on_trunk_side.frame i;
+          channel = on_trunk_side.channel i;
+        }
 
     at_trunk_side : trunk_link q ≡ trunk_link p
     at_trunk_side =
@@ -91,7 +99,8 @@ pub record HasOnWord (q : Path) (word : ℕ) : Type 0 where
 
 module _ (p q : Path) where
   line_words : line_link q ≡ line_link p → HasOnWord q (line_of p).word
-  line_words same = let frame = ap (λ (l : Link). l.frame) same in let at = ap (λ (l : Link). l.at) same in record { crosspoint = line_of q; has = inl refl; on = omega (arith, frame, at) }
+  line_words same = let frame = ap (λ (l : Link). l.frame) same in let at = ap (λ (l : Link). l.at) same in
+      record { crosspoint = line_of q; has = inl refl; on = omega (arith, frame, at) }
 
   line_side_words : line_link q ≡ line_link p → HasOnWord q (line_junctor_of p).word
   line_side_words same =
@@ -114,7 +123,8 @@ module _ (p q : Path) where
       record { crosspoint = trunk_junctor_of q; has = inr (inr (inl refl)); on = omega (arith, frame, channel) }
 
   place_words : trunk_link q ≡ trunk_link p → HasOnWord q (trunk_of p).word
-  place_words same = let frame = ap (λ (l : Link). l.frame) same in let at = ap (λ (l : Link). l.at) same in record { crosspoint = trunk_of q; has = inr (inr (inr (inl refl))); on = omega (arith, frame, at) }
+  place_words same = let frame = ap (λ (l : Link). l.frame) same in let at = ap (λ (l : Link). l.at) same in
+      record { crosspoint = trunk_of q; has = inr (inr (inr (inl refl))); on = omega (arith, frame, at) }
 
 module _ (p q : Path) (link : Link) (c : Crosspoint) (has : HasLink q link) where
   -- what it has of the link of a joint

@@ -3,27 +3,19 @@
 use Rattle.std.proofs.Common.{◌≡◌, ◌≢◌, ◌⊎◌, ℕ, suc, List, [], ◌∷◌, inl, inr, ◌∙◌, ap, refl, subst}
 use mathlib.Core.Option.{some}
 use lib.ListN.{get_elem?}
-use Rattle.turns.specs.Attempt.{effects_left_in}
-use Rattle.turns.specs.World.{Idle, Does, completed_from, completed_word, effects_left_of, value_after}
-use Rattle.turns.specs.declared.phase.Phase.TheVariants.{Requests, Seizes, Tests, Turns, Withdraws, GivesBack, Operates}
-use Rattle.turns.proofs.Completed.{all_spare}
-use Rattle.xbar_plan.specs.Tables.{Tables}
-use Rattle.xbar_office.specs.Legal.{after}
-use Rattle.xbar_jobs.specs.Attempt.{Attempt, Phase}
-use Rattle.xbar_jobs.specs.Office.{ShowsOffice, office}
-use Rattle.xbar_jobs.specs.declared.effect.Effect.{Effect}
-use Rattle.xbar_moves.specs.Exchange.{Exchange, IsLawfulExchange, Work}
-use Rattle.xbar_moves.specs.Holding.{IsAt, completed}
-use Rattle.xbar_moves.proofs.Actors.{marker_at}
-use Rattle.xbar_moves.proofs.Markers.{works}
-use Rattle.xbar_moves.proofs.Records.{completed_shows}
+use Rattle.turns.specs.{Attempt.effects_left_in, World.{Idle, Does, completed_from, completed_word, effects_left_of, value_after}}
+use Rattle.turns.{specs.declared.phase.Phase.TheVariants.{Requests, Seizes, Tests, Turns, Withdraws, GivesBack, Operates}, proofs.Completed.all_spare}
+use Rattle.{xbar_plan.specs.Tables.Tables, xbar_office.specs.Legal.after, xbar_jobs.specs.{Attempt.{Attempt, Phase}, Office.{ShowsOffice, office}}}
+use Rattle.{xbar_jobs.specs.declared.effect.Effect.Effect, xbar_moves.specs.{Exchange.{Exchange, IsLawfulExchange, Work}, Holding.{IsAt, completed}}}
+use Rattle.xbar_moves.proofs.{Actors.marker_at, Markers.works, Records.completed_shows}
 
 -- no marker past its turn has an effect left
 abbrev pub AreMade : Exchange → Type 0
 AreMade e = (k number turn : ℕ) (a : Attempt) → IsAt e k number a → a.phase ≡ Operates turn → a.effects ≡ []
 
 -- a phase is past the turn, or no effect is left in it
-pub past_or_not : (phase : Phase) (effects : List Effect) → ((turn : ℕ) × (phase ≡ Operates turn)) ⊎ ((effects_left_in phase effects ≡ []) × ((turn : ℕ) → phase ≢ Operates turn))
+pub past_or_not : (phase : Phase) (effects : List Effect)
+    → ((turn : ℕ) × (phase ≡ Operates turn)) ⊎ ((effects_left_in phase effects ≡ []) × ((turn : ℕ) → phase ≢ Operates turn))
 past_or_not (Operates turn) effects = inl (turn, refl)
 past_or_not (Requests conn) effects = inr (refl, λ turn same. cc)
 past_or_not (Seizes conn expected) effects = inr (refl, λ turn same. cc)
@@ -44,7 +36,8 @@ module _ (plan : Tables) where
 
   -- so nothing is to be completed
   word_made : (actors : List Work) (word value : ℕ) → NoneLeft actors → completed_word (office plan) actors word value ≡ value
-  word_made actors word value none = all_spare (office plan) actors word value (λ j work there v. ap (λ (effects : List Effect). value_after (office plan) effects word v) (none j work there))
+  word_made actors word value none =
+      all_spare (office plan) actors word value (λ j work there v. ap (λ (effects : List Effect). value_after (office plan) effects word v) (none j work there))
 
   words_made : (actors : List Work) (word : ℕ) (words : List ℕ) → NoneLeft actors → completed_from (office plan) actors word words ≡ words
   words_made actors word [] none = refl

@@ -1,10 +1,8 @@
 -- an office's markers as the actors of its world
-use Rattle.std.proofs.Common.{◌≡◌, ◌≢◌, ℕ, zero, suc, ◌<◌, List, [], ◌∷◌, length, map, refl, sym, ap, arith}
-use Rattle.std.specs.Prelude.{Some, None, slice_get, slice_set}
-use Rattle.std.proofs.lemmas.Option.{none-some, same_Some}
+use Rattle.std.proofs.Common.{◌≡◌, ◌≢◌, ℕ, zero, suc, ◌<◌, List, [], ◌∷◌, length, map, refl, sym, ap, arith, Some, None, slice_get, slice_set}
+use Rattle.{std.proofs.lemmas.Option.{none-some, same_Some}, xbar_moves.specs.Exchange.{Marker, Work}}
 use mathlib.Core.Option.{some, some-injective, some-ne-none}
 use lib.ListN.{get_elem?}
-use Rattle.xbar_moves.specs.Exchange.{Marker, Work}
 
 -- the marker that an item of a list of actors is
 pub record StandsFor (markers : List Marker) (k : ℕ) (work : Work) : Type 0 where

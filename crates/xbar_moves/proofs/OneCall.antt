@@ -1,43 +1,15 @@
 -- no link carries two calls: each closed crosspoint belongs to a path, and all at one link to one path
 use Rattle.std.proofs.Common.{◌≡◌, ℕ, ◌++◌, List, map, slice_index, inl, inr, refl, sym, ◌∙◌, ap, subst, arith}
-use Rattle.turns.specs.Among.{IsIn}
-use Rattle.turns.specs.Script.{run}
-use Rattle.turns.specs.System.{IsUnder}
-use Rattle.turns.proofs.Lists.{in_back, in_either, in_front}
+use Rattle.{turns.{specs.{Among.IsIn, Script.run, System.IsUnder}, proofs.Lists.{in_back, in_either, in_front}}, xbar_equip.specs.Crosspoint.crosspoints}
+use Rattle.xbar_equip.{specs.{Link.Link, Path.IsPath, declared.{crosspoint.Crosspoint.Crosspoint, path.Path.Path}}, proofs.Meeting.{HasLink, share}}
+use Rattle.{xbar_switch.specs.Field.field_of, xbar_match.specs.{Effects.IsCrosspoint, Shows.{IsClosedIn, ShowsPaths}, Switches.{held_at, shape_at}}}
+use Rattle.{xbar_match.proofs.PathEffects.crosspoint, xbar_plan.specs.{Lawful.IsLawful, Tables.Tables}, xbar_office.specs.{LawfulSet.IsOrderlySet, Legal.after}}
+use Rattle.xbar_jobs.specs.{Attempt.Attempt, Closing.{value_after as made_of}, Jobs.script, Office.office, declared.decision.Decision.Decision}
+use Rattle.{xbar_jobs.specs.declared.effect.Effect.{Effect, TheVariants.Open}, xbar_moves.specs.{Exchange.{Exchange, IsLawfulExchange}, Holding.completed}}
+use Rattle.xbar_moves.{specs.Links.{BelongsTo, IsAtLink, IsClosed}, proofs.{Among.{among_equip, among_turns}, ClosedCrosspoints.{HasLeft, left_or_stays}}}
+use Rattle.xbar_moves.proofs.{LeftEffects.spared, LetGo.{LetsGo, job_lets_go}, LinkSides.{HasOnWord, has_link, word_at_link}, Records.completed_shows}
+use Rattle.xbar_moves.proofs.{TakenOut.{AreOpens, IsOpened, in_opens, opened_by, opens_in, opens_so_far}, TurnedJobs.{Decided, before, decided}}
 use Rattle.xbar_equip.specs.Among as equip
-use Rattle.xbar_equip.specs.Crosspoint.{crosspoints}
-use Rattle.xbar_equip.specs.Link.{Link}
-use Rattle.xbar_equip.specs.Path.{IsPath}
-use Rattle.xbar_equip.specs.declared.crosspoint.Crosspoint.{Crosspoint}
-use Rattle.xbar_equip.specs.declared.path.Path.{Path}
-use Rattle.xbar_equip.proofs.Meeting.{HasLink, share}
-use Rattle.xbar_switch.specs.Field.{field_of}
-use Rattle.xbar_match.specs.Effects.{IsCrosspoint}
-use Rattle.xbar_match.specs.Shows.{IsClosedIn, ShowsPaths}
-use Rattle.xbar_match.specs.Switches.{held_at, shape_at}
-use Rattle.xbar_match.proofs.PathEffects.{crosspoint}
-use Rattle.xbar_plan.specs.Lawful.{IsLawful}
-use Rattle.xbar_plan.specs.Tables.{Tables}
-use Rattle.xbar_office.specs.LawfulSet.{IsOrderlySet}
-use Rattle.xbar_office.specs.Legal.{after}
-use Rattle.xbar_jobs.specs.Attempt.{Attempt}
-use Rattle.xbar_jobs.specs.Closing.{value_after as made_of}
-use Rattle.xbar_jobs.specs.Jobs.{script}
-use Rattle.xbar_jobs.specs.Office.{office}
-use Rattle.xbar_jobs.specs.declared.decision.Decision.{Decision}
-use Rattle.xbar_jobs.specs.declared.effect.Effect.{Effect}
-use Rattle.xbar_jobs.specs.declared.effect.Effect.TheVariants.{Open}
-use Rattle.xbar_moves.specs.Exchange.{Exchange, IsLawfulExchange}
-use Rattle.xbar_moves.specs.Holding.{completed}
-use Rattle.xbar_moves.specs.Links.{BelongsTo, IsAtLink, IsClosed}
-use Rattle.xbar_moves.proofs.Among.{among_equip, among_turns}
-use Rattle.xbar_moves.proofs.ClosedCrosspoints.{HasLeft, left_or_stays}
-use Rattle.xbar_moves.proofs.LeftEffects.{spared}
-use Rattle.xbar_moves.proofs.LetGo.{LetsGo, job_lets_go}
-use Rattle.xbar_moves.proofs.LinkSides.{HasOnWord, has_link, word_at_link}
-use Rattle.xbar_moves.proofs.Records.{completed_shows}
-use Rattle.xbar_moves.proofs.TakenOut.{AreOpens, IsOpened, in_opens, opened_by, opens_in, opens_so_far}
-use Rattle.xbar_moves.proofs.TurnedJobs.{Decided, before, decided}
 
 -- what words that show some paths have closed is of one of them
 shown_closed : (words : List ℕ) (paths : List Path) (c : Crosspoint) → ShowsPaths words paths → IsClosed words c → IsClosedIn paths c
@@ -49,7 +21,8 @@ shown_closed words paths c shows is = elim ((shows.switch c.word is.word).others
 -- of paths that lie apart, those that have a crosspoint at one link are one
 one_path : (plan : Tables) (paths : List Path) (link : Link) (c : Crosspoint) (p q : Path) → IsOrderlySet plan paths → equip.IsIn p paths → equip.IsIn q paths
     → IsAtLink link c → IsIn c (crosspoints p) → HasLink q link → p ≡ q
-one_path plan paths link c p q orderly in_p in_q at has linked = orderly.apart p q in_p in_q (share p q link (has_link link c p at (orderly.ranges p in_p) has) linked)
+one_path plan paths link c p q orderly in_p in_q at has linked =
+    orderly.apart p q in_p in_q (share p q link (has_link link c p at (orderly.ranges p in_p) has) linked)
 
 module _ (plan : Tables) (laws : IsLawful plan) (e : Exchange) (lawful : IsLawfulExchange plan e) where
   -- a crosspoint that a marker has left to open
@@ -110,7 +83,9 @@ module _ (plan : Tables) (laws : IsLawful plan) (e : Exchange) (lawful : IsLawfu
       ]
 
       under : IsUnder (office plan) a.held d.word
-      under = subst (IsUnder (office plan) a.held) beside.on (is_under beside.crosspoint (subst (IsIn (Open beside.crosspoint)) did.effects (opened.all beside.crosspoint beside.has)))
+      under =
+          subst (IsUnder (office plan) a.held) beside.on (is_under beside.crosspoint
+          (subst (IsIn (Open beside.crosspoint)) did.effects (opened.all beside.crosspoint beside.has)))
 
       opens : AreOpens did.made
       opens = opens_so_far plan paths a.job decision goes did.made a.effects did.effects c has.left
@@ -138,13 +113,17 @@ module _ (plan : Tables) (laws : IsLawful plan) (e : Exchange) (lawful : IsLawfu
       was_closed : WasClosed
       was_closed = elim (spared plan d.word d.field closed.field opens.cs (slice_index did.words d.word) made_range) [
         | inl opened ↦ let nothing : d.value ≡ 0 = sym field_now ∙ opened in absurd (omega (arith, nothing, closed.closed))
-        | inr kept ↦ record { then = record { word = closed.word; field = closed.field; closed = closed.closed; held = sym kept.0 ∙ field_now }; none = λ within. kept.1 d within refl refl }
+        | inr kept ↦ record {
+          then = record { word = closed.word; field = closed.field; closed = closed.closed; held = sym kept.0 ∙ field_now };
+          none = λ within. kept.1 d within refl refl;
+        }
       ]
 
       own : IsIn d (crosspoints opened.path)
       own =
           let of_path = shown_closed did.words paths d did.shows.switches was_closed.then in
-          subst (λ (p : Path). IsIn d (crosspoints p)) (one_path plan paths link d of_path.0 opened.path did.shows.lawful.orderly of_path.1 opened.goes.there also of_path.2 linked) of_path.2
+          subst (λ (p : Path). IsIn d (crosspoints p)) (one_path plan paths link d of_path.0 opened.path did.shows.lawful.orderly of_path.1 opened.goes.there
+          also of_path.2 linked) of_path.2
 
       left : IsIn (Open d) a.effects
       left = elim (in_either (Open d) did.made a.effects (subst (IsIn (Open d)) did.effects (opened.all d own))) [
@@ -160,7 +139,9 @@ module _ (plan : Tables) (laws : IsLawful plan) (e : Exchange) (lawful : IsLawfu
 
   -- a crosspoint that stays closed is of a path of the set after all records
   stays_in : (c : Crosspoint) → IsClosed e.words c → held_at (completed plan e) c.word c.field ≡ c.value → IsClosedIn (after plan e.records) c
-  stays_in c closed stays = shown_closed (completed plan e) (after plan e.records) c (completed_shows plan e lawful).switches (record { word = closed.word; field = closed.field; closed = closed.closed; held = stays })
+  stays_in c closed stays =
+      shown_closed (completed plan e) (after plan e.records) c (completed_shows plan e lawful).switches
+      (record { word = closed.word; field = closed.field; closed = closed.closed; held = stays })
 
   stays_belongs : (c : Crosspoint) (path : Path) → equip.IsIn path (after plan e.records) → IsIn c (crosspoints path) → BelongsTo plan e path c
   stays_belongs c path within own = record { has = own; why = inl (among_turns path (after plan e.records) within) }
@@ -173,7 +154,8 @@ module _ (plan : Tables) (laws : IsLawful plan) (e : Exchange) (lawful : IsLawfu
   ]
 
   -- all closed crosspoints at one link belong to one path
-  pub one_call : (link : Link) (c : Crosspoint) → IsClosed e.words c → IsAtLink link c → (path : Path) × ((d : Crosspoint) → IsClosed e.words d → IsAtLink link d → BelongsTo plan e path d)
+  pub one_call : (link : Link) (c : Crosspoint) → IsClosed e.words c → IsAtLink link c
+      → (path : Path) × ((d : Crosspoint) → IsClosed e.words d → IsAtLink link d → BelongsTo plan e path d)
   one_call link c closed at = elim (left_or_stays plan laws e lawful c closed) [
     | inl has ↦ let is = opened c has in (is.path, λ d other also. also_belongs c has link at d other also)
     | inr stays ↦ let is = stays_in c closed stays.1 in (
@@ -183,7 +165,9 @@ module _ (plan : Tables) (laws : IsLawful plan) (e : Exchange) (lawful : IsLawfu
         | inr remains ↦
             let beside = stays_in d other remains.1 in
             let orderly = (completed_shows plan e lawful).lawful.orderly in
-            let same = one_path plan (after plan e.records) link d beside.0 is.0 orderly beside.1 is.1 also beside.2 (has_link link c is.0 at (orderly.ranges is.0 is.1) is.2) in
+            let same =
+            one_path plan (after plan e.records) link d beside.0 is.0 orderly beside.1 is.1 also beside.2
+            (has_link link c is.0 at (orderly.ranges is.0 is.1) is.2) in
             stays_belongs d is.0 is.1 (subst (λ (p : Path). IsIn d (crosspoints p)) same beside.2)
       ],
     )

@@ -1,29 +1,14 @@
 -- what a releasing marker has left is the end of the opening of the paths that its reply names
-use Rattle.std.proofs.Common.{◌≡◌, ℕ, List, sym, ◌∙◌, ap, subst}
-use Rattle.std.specs.Prelude.{Option, Some}
-use Rattle.turns.specs.Script.{run}
-use Rattle.xbar_equip.specs.Len.{Line}
-use Rattle.xbar_equip.specs.declared.path.Path.{Path}
-use Rattle.xbar_plan.specs.Tables.{Tables, member_place}
-use Rattle.xbar_plan.specs.Lawful.{IsLawful}
-use Rattle.xbar_office.specs.Legal.{IsJob}
-use Rattle.xbar_office.specs.declared.job.Job.{Job}
-use Rattle.xbar_office.specs.declared.job.Job.TheVariants.{Release}
-use Rattle.xbar_office.specs.declared.reply.Card.{Card}
-use Rattle.xbar_office.specs.declared.reply.End.TheVariants.{NoCall, Released}
-use Rattle.xbar_office.specs.declared.reply.Reply.{Reply}
-use Rattle.xbar_jobs.specs.Attempt.{Attempt}
-use Rattle.xbar_jobs.specs.Closing.{effects as effects_of, leave_effects, leave_of, refused, released}
-use Rattle.xbar_jobs.specs.Jobs.{script}
-use Rattle.xbar_jobs.specs.Releasing.{release_steps}
-use Rattle.xbar_jobs.specs.declared.decision.Decision.{Decision}
-use Rattle.xbar_jobs.proofs.ReleaseDecides.{ComesTo, HasNone, LetsGo, release_comes, released_effects}
-use Rattle.xbar_moves.specs.Exchange.{Exchange}
-use Rattle.xbar_moves.specs.Links.{OpensItsOwn}
-use Rattle.xbar_moves.proofs.TurnedJobs.{Decided, before}
+use Rattle.std.proofs.Common.{◌≡◌, ℕ, List, sym, ◌∙◌, ap, subst, Option, Some}
+use Rattle.{turns.specs.Script.run, xbar_equip.specs.{Len.Line, declared.path.Path.Path}, xbar_plan.specs.{Tables.{Tables, member_place}, Lawful.IsLawful}}
+use Rattle.xbar_office.specs.{Legal.IsJob, declared.{job.Job.{Job, TheVariants.Release}, reply.{Card.Card, End.TheVariants.{NoCall, Released}, Reply.Reply}}}
+use Rattle.xbar_jobs.specs.{Attempt.Attempt, Closing.{effects as effects_of, leave_effects, leave_of, refused, released}, Jobs.script, Releasing.release_steps}
+use Rattle.xbar_jobs.{specs.declared.decision.Decision.Decision, proofs.ReleaseDecides.{ComesTo, HasNone, LetsGo, release_comes, released_effects}}
+use Rattle.xbar_moves.{specs.{Exchange.Exchange, Links.OpensItsOwn}, proofs.TurnedJobs.{Decided, before}}
 
 module _ (plan : Tables) (laws : IsLawful plan) (e : Exchange) (k : ℕ) (a : Attempt) (did : Decided plan e k a)
-    (line : Line) (does : a.job ≡ Release line) (own : Path) (other : Option Path) (cards : List Card) (replied : a.reply ≡ Some (record { end = Released own other; cards = cards })) where
+    (line : Line) (does : a.job ≡ Release line) (own : Path) (other : Option Path) (cards : List Card)
+    (replied : a.reply ≡ Some (record { end = Released own other; cards = cards })) where
   abbrev decision : Decision
   decision = run did.words (script plan a.job)
 
@@ -44,13 +29,16 @@ module _ (plan : Tables) (laws : IsLawful plan) (e : Exchange) (k : ℕ) (a : At
       let end : Released own other ≡ Released leave.own leave.other = end_is (released leave) comes in
       let own_is : leave.own ≡ own = cc in
       let other_is : leave.other ≡ other = cc in
-      let leave_same : leave ≡ leave_of leave.own leave.other is.found = λ i. record { group = is.group i; index = is.index i; own = leave.own; other = leave.other } in
+      let leave_same : leave ≡ leave_of leave.own leave.other is.found =
+      λ i. record { group = is.group i; index = is.index i; own = leave.own; other = leave.other } in
       let named : leave_of leave.own leave.other is.found ≡ leave_of own other is.found = λ i. leave_of (own_is i) (other_is i) is.found in
       record {
         found = is.found;
         here = sym (ap (λ (p : Path). member_place plan p.place) own_is) ∙ is.here;
         made = did.made;
-        left = ap leave_effects (sym named) ∙ ap leave_effects (sym leave_same) ∙ sym (released_effects leave) ∙ ap (λ (d : Decision). effects_of d) (sym comes) ∙ did.effects;
+        left =
+            ap leave_effects (sym named) ∙ ap leave_effects (sym leave_same) ∙ sym (released_effects leave) ∙ ap (λ (d : Decision). effects_of d) (sym comes)
+            ∙ did.effects;
         due = did.due;
       }
 

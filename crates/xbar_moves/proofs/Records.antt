@@ -1,17 +1,10 @@
 -- the records of an office are the turns of its world
-use Rattle.std.proofs.Common.{◌≡◌, ℕ, suc, ◌+◌, ◌^◌, ◌%◌, ◌<◌, List, [], ◌∷◌, length, map, slice_index, refl, ap, ◌∙◌, subst, arith}
-use Rattle.std.proofs.Math.Nat.{mod-eq_of_lt}
+use Rattle.std.proofs.Common.{◌≡◌, ℕ, suc, ◌+◌, ◌^◌, ◌%◌, ◌<◌, List, [], ◌∷◌, length, map, slice_index, refl, ap, ◌∙◌, subst, arith, mod-eq_of_lt}
+use Rattle.{xbar_equip.specs.{Word.{TurnWord, word_number}, declared.path.Path.Path}, xbar_plan.specs.Tables.Tables}
+use Rattle.xbar_office.specs.{Legal.{AreJobs, HaveReplies, HaveTurns, IsLegal, after, after_jobs, jobs_of}, Whole.whole, declared.reply.Record.Record}
+use Rattle.{xbar_jobs.specs.Office.{ShowsOffice, office}, xbar_moves.specs.{Exchange.{Exchange, IsLawfulExchange, turned}, Holding.completed}}
 use Rattle.turns.specs.Law as law
 use Rattle.turns.specs.World as worlds
-use Rattle.xbar_equip.specs.Word.{TurnWord, word_number}
-use Rattle.xbar_equip.specs.declared.path.Path.{Path}
-use Rattle.xbar_plan.specs.Tables.{Tables}
-use Rattle.xbar_office.specs.Legal.{AreJobs, HaveReplies, HaveTurns, IsLegal, after, after_jobs, jobs_of}
-use Rattle.xbar_office.specs.Whole.{whole}
-use Rattle.xbar_office.specs.declared.reply.Record.{Record}
-use Rattle.xbar_jobs.specs.Office.{ShowsOffice, office}
-use Rattle.xbar_moves.specs.Exchange.{Exchange, IsLawfulExchange, turned}
-use Rattle.xbar_moves.specs.Holding.{completed}
 
 -- there are as many turns as records
 pub length-turned : (records : List Record) → length (map turned records) ≡ length records
@@ -30,12 +23,14 @@ module _ (plan : Tables) where
   jobs_legal i paths (r ∷ records) legal = (legal.0, jobs_legal (suc i) (whole plan paths r.job).paths records legal.3)
 
   -- have the replies of the one-marker office
-  pub replies_legal : (i : ℕ) (paths : List Path) (records : List Record) → law.IsLegal (office plan) i paths (map turned records) → HaveReplies plan paths records
+  pub replies_legal : (i : ℕ) (paths : List Path) (records : List Record) → law.IsLegal (office plan) i paths (map turned records)
+      → HaveReplies plan paths records
   replies_legal i paths [] legal = tt
   replies_legal i paths (r ∷ records) legal = (legal.2, replies_legal (suc i) (whole plan paths r.job).paths records legal.3)
 
   -- and, if they are few enough, the turns from the first one on
-  pub turns_legal : (i turn : ℕ) (paths : List Path) (records : List Record) → i ≡ turn → i + length records < 2 ^ 64 → law.IsLegal (office plan) i paths (map turned records) → HaveTurns turn records
+  pub turns_legal : (i turn : ℕ) (paths : List Path) (records : List Record) → i ≡ turn → i + length records < 2 ^ 64
+      → law.IsLegal (office plan) i paths (map turned records) → HaveTurns turn records
   turns_legal i turn paths [] same fits legal = tt
   turns_legal i turn paths (r ∷ records) same fits legal =
       (legal.1 ∙ mod-eq_of_lt (omega arith) ∙ same, turns_legal (suc i) (turn + 1) (whole plan paths r.job).paths records (omega arith) (omega arith) legal.3)

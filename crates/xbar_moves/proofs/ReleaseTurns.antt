@@ -1,43 +1,18 @@
 -- what a release has fixed at its turn is the opening of its paths, and each step past it makes the first effect that is left
-use Rattle.std.proofs.Common.{◌≡◌, ℕ, ◌<◌, false, List, [], ◌∷◌, length, slice_index, slice_set, sym, ◌∙◌, ap, subst}
-use Rattle.std.specs.Prelude.{Option, Some}
-use Rattle.turns.specs.Among.{IsIn}
+use Rattle.std.proofs.Common.{◌≡◌, ℕ, ◌<◌, false, List, [], ◌∷◌, length, slice_index, slice_set, sym, ◌∙◌, ap, subst, Option, Some}
+use Rattle.turns.specs.{Among.IsIn, Attempt.{HasDecided, IsValidIn, act, act_in, change, changed, closing_act, effects_left_in, operated, read_in}}
+use Rattle.turns.specs.{declared.{act.Act.TheVariants.Make, answer.Answer.TheVariants.Done, phase.Phase.TheVariants.{Turns, Operates}}, Law.IsSound}
+use Rattle.turns.specs.{Runs.is_finished, Seen.AreReadFrom, System.perform_all, World.{Does, becomes, value_after as worlds_made, place}}
+use Rattle.{turns.proofs.{Completed.{completed_index, completed_length, only_one}, Effects.others_spare}, xbar_equip.specs.{Len.Line, declared.path.Path.Path}}
+use Rattle.{xbar_plan.specs.{Tables.Tables, Lawful.IsLawful}, xbar_office.specs.{Legal.{IsJob, after}, declared.{job.Job.TheVariants.Release, reply.Card.Card}}}
+use Rattle.{xbar_office.specs.declared.reply.End.TheVariants.Released, xbar_jobs.specs.{Attempt.{Act, Attempt, Phase}, Office.office, Opening.ReleasesJust}}
+use Rattle.xbar_jobs.{specs.declared.effect.Effect.Effect, proofs.{OfficeSystem.office_is, ReleasedWords.a_release_opens_just_its_call}}
+use Rattle.xbar_moves.specs.{AtWork.answer_to_step, Exchange.{Exchange, IsLawfulExchange, world}, Holding.{IsAt, completed}, Moves.{after_answer, after_step}}
+use Rattle.xbar_moves.proofs.{Actors.actor_at, Records.completed_shows, StepCases.{gone_on, step_made}, Worlds.{answer_is, words_are}}
 use Rattle.turns.specs.Attempt as generic
-use Rattle.turns.specs.Attempt.{HasDecided, IsValidIn, act, act_in, change, changed, closing_act, effects_left_in, operated, read_in}
-use Rattle.turns.specs.declared.act.Act.TheVariants.{Make}
-use Rattle.turns.specs.Law.{IsSound}
-use Rattle.turns.specs.Runs.{is_finished}
-use Rattle.turns.specs.Seen.{AreReadFrom}
-use Rattle.turns.specs.System.{perform_all}
-use Rattle.turns.specs.World.{Does, becomes, value_after as worlds_made, place}
-use Rattle.turns.specs.declared.answer.Answer.TheVariants.{Done}
-use Rattle.turns.specs.declared.phase.Phase.TheVariants.{Turns, Operates}
-use Rattle.turns.proofs.Completed.{completed_index, completed_length, only_one}
-use Rattle.turns.proofs.Effects.{others_spare}
-use Rattle.xbar_equip.specs.Len.{Line}
-use Rattle.xbar_equip.specs.declared.path.Path.{Path}
-use Rattle.xbar_plan.specs.Tables.{Tables}
-use Rattle.xbar_plan.specs.Lawful.{IsLawful}
-use Rattle.xbar_office.specs.Legal.{IsJob, after}
-use Rattle.xbar_office.specs.declared.job.Job.TheVariants.{Release}
-use Rattle.xbar_office.specs.declared.reply.Card.{Card}
-use Rattle.xbar_office.specs.declared.reply.End.TheVariants.{Released}
-use Rattle.xbar_jobs.specs.Attempt.{Act, Attempt, Phase}
-use Rattle.xbar_jobs.specs.Office.{office}
-use Rattle.xbar_jobs.specs.Opening.{ReleasesJust}
-use Rattle.xbar_jobs.specs.declared.effect.Effect.{Effect}
-use Rattle.xbar_jobs.proofs.OfficeSystem.{office_is}
-use Rattle.xbar_jobs.proofs.ReleasedWords.{a_release_opens_just_its_call}
-use Rattle.xbar_moves.specs.AtWork.{answer_to_step}
-use Rattle.xbar_moves.specs.Exchange.{Exchange, IsLawfulExchange, world}
-use Rattle.xbar_moves.specs.Holding.{IsAt, completed}
-use Rattle.xbar_moves.specs.Moves.{after_answer, after_step}
-use Rattle.xbar_moves.proofs.Actors.{actor_at}
-use Rattle.xbar_moves.proofs.Records.{completed_shows}
-use Rattle.xbar_moves.proofs.StepCases.{gone_on, step_made}
-use Rattle.xbar_moves.proofs.Worlds.{answer_is, words_are}
 
-module _ (plan : Tables) (laws : IsLawful plan) (e : Exchange) (lawful : IsLawfulExchange plan e) (k number : ℕ) (a : Attempt) (at : IsAt e k number a) (turns : a.phase ≡ Turns) where
+module _ (plan : Tables) (laws : IsLawful plan) (e : Exchange) (lawful : IsLawfulExchange plan e) (k number : ℕ) (a : Attempt) (at : IsAt e k number a)
+    (turns : a.phase ≡ Turns) where
   sound : IsSound (office plan) (world plan e) k number a
   sound = lawful.sound k number a (actor_at e k number a at)
 
@@ -58,18 +33,22 @@ module _ (plan : Tables) (laws : IsLawful plan) (e : Exchange) (lawful : IsLawfu
       let counts : IsIn r (read_in a.phase a.readings) = subst (λ (phase : Phase). IsIn r (read_in phase a.readings)) (sym turns) within in
       let read = sound.read r counts in
       let below = subst (λ (size : ℕ). r.word < size) (sym lawful.size) (system.words.word_there r.word read.under.lock read.under.protects) in
-      let nothing : worlds_made (office plan) (effects_left_in a.phase a.effects) r.word (slice_index e.words r.word) ≡ slice_index e.words r.word = ap (λ (phase : Phase). worlds_made (office plan) (effects_left_in phase a.effects) r.word (slice_index e.words r.word)) turns in
+      let nothing : worlds_made (office plan) (effects_left_in a.phase a.effects) r.word (slice_index e.words r.word) ≡ slice_index e.words r.word =
+      ap (λ (phase : Phase). worlds_made (office plan) (effects_left_in phase a.effects) r.word (slice_index e.words r.word)) turns in
       completed_index (office plan) w r.word below
-      ∙ only_one (office plan) w.actors k r.word (slice_index e.words r.word) (Does number a) there (others_spare (office plan) system w lawful k number a there r.word read.under)
+      ∙ only_one (office plan) w.actors k r.word (slice_index e.words r.word) (Does number a) there
+      (others_spare (office plan) system w lawful k number a there r.word read.under)
       ∙ nothing ∙ read.value
 
   -- so what a release has fixed at its turn is what opens its paths on the completed words
-  pub fixed_at_turn : (line : Line) (own : Path) (other : Option Path) (cards : List Card) → a.job ≡ Release line → a.reply ≡ Some (record { end = Released own other; cards = cards }) → ReleasesJust plan own other (completed plan e) a.effects
+  pub fixed_at_turn : (line : Line) (own : Path) (other : Option Path) (cards : List Card) → a.job ≡ Release line
+      → a.reply ≡ Some (record { end = Released own other; cards = cards }) → ReleasesJust plan own other (completed plan e) a.effects
   fixed_at_turn line own other cards does replied =
       a_release_opens_just_its_call plan a line own other (completed plan e) (after plan e.records) laws (subst IsJob does sound.job) does decided
       cards replied completed_size (completed_shows plan e lawful) completed_read
 
-module _ (plan : Tables) (e : Exchange) (k number turn : ℕ) (a : Attempt) (effect : Effect) (effects : List Effect) (at : IsAt e k number a) (past : a.phase ≡ Operates turn) (left : a.effects ≡ effect ∷ effects) where
+module _ (plan : Tables) (e : Exchange) (k number turn : ℕ) (a : Attempt) (effect : Effect) (effects : List Effect) (at : IsAt e k number a)
+    (past : a.phase ≡ Operates turn) (left : a.effects ≡ effect ∷ effects) where
   -- past its turn the next step makes the first effect that is left
   makes_first : act a ≡ Make effect
   makes_first = ap (λ (phase : Phase). act_in phase a) past ∙ ap (λ (some : List Effect). closing_act some a.held) left
@@ -86,11 +65,13 @@ module _ (plan : Tables) (e : Exchange) (k number turn : ℕ) (a : Attempt) (eff
   words_made =
       ap (λ (x : Exchange). x.words) is_stepped
       ∙ words_are plan k e.words a
-      ∙ ap (λ (next : Act). slice_set e.words (place (office plan) next) (becomes (office plan) k next (slice_index e.words (place (office plan) next)))) makes_first
+      ∙ ap (λ (next : Act). slice_set e.words (place (office plan) next) (becomes (office plan) k next (slice_index e.words (place (office plan) next))))
+      makes_first
 
   -- and then the others are left
   told_done : answer_to_step k e.words a ≡ Done
-  told_done = answer_is plan k e.words a ∙ ap (λ (next : Act). generic.answer_to (office plan) k next (slice_index e.words (place (office plan) next))) makes_first
+  told_done =
+      answer_is plan k e.words a ∙ ap (λ (next : Act). generic.answer_to (office plan) k next (slice_index e.words (place (office plan) next))) makes_first
 
   others_left : change (office plan) a (answer_to_step k e.words a) ≡ record a { effects = effects }
   others_left =
@@ -103,5 +84,6 @@ module _ (plan : Tables) (e : Exchange) (k number turn : ℕ) (a : Attempt) (eff
       subst (λ (b : Attempt). IsAt (after_step plan k e) k number b) others_left
       (gone_on plan e k number a at goes_on)
 
-  pub makes_one : ((after_step plan k e).words ≡ perform_all (office plan) e.words (effect ∷ [])) × IsAt (after_step plan k e) k number (record a { effects = effects })
+  pub makes_one : ((after_step plan k e).words ≡ perform_all (office plan) e.words (effect ∷ []))
+      × IsAt (after_step plan k e) k number (record a { effects = effects })
   makes_one = (words_made, goes_to)

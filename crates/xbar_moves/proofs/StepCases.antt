@@ -1,19 +1,8 @@
 -- a step changes nothing, or it is the next step of an attempt
-use Rattle.std.proofs.Common.{◌≡◌, ◌≢◌, ℕ, ◌⊎◌, Bool, true, false, length, length-set, inl, inr, refl, sym, ap, subst, ◌∙◌}
-use Rattle.std.specs.Prelude.{if◌then◌else◌, slice_get}
-use Rattle.turns.specs.Attempt.{act, change}
-use Rattle.turns.specs.Runs.{is_finished}
-use Rattle.turns.specs.World.{Does}
-use Rattle.turns.specs.declared.answer.Answer.{Answer}
-use Rattle.xbar_plan.specs.Tables.{Tables}
-use Rattle.xbar_jobs.specs.Attempt.{Attempt}
-use Rattle.xbar_jobs.specs.Office.{office}
-use Rattle.xbar_moves.specs.AtWork.{answer_to_step}
-use Rattle.xbar_moves.specs.Exchange.{Exchange, Marker}
-use Rattle.xbar_moves.specs.Holding.{IsAt}
-use Rattle.xbar_moves.specs.Moves.{after_answer, after_step}
-use Rattle.xbar_moves.proofs.Jobs.{at_job_has, at_job_is}
-use Rattle.xbar_moves.proofs.Markers.{marker_else, marker_set}
+use Rattle.std.proofs.Common.{◌≡◌, ◌≢◌, ℕ, ◌⊎◌, Bool, true, false, length, length-set, inl, inr, refl, sym, ap, subst, ◌∙◌, if◌then◌else◌, slice_get}
+use Rattle.{turns.specs.{Attempt.{act, change}, Runs.is_finished, World.Does, declared.answer.Answer.Answer}, xbar_plan.specs.Tables.Tables}
+use Rattle.{xbar_jobs.specs.{Attempt.Attempt, Office.office}, xbar_moves.specs.{AtWork.answer_to_step, Exchange.{Exchange, Marker}, Holding.IsAt}}
+use Rattle.xbar_moves.{specs.Moves.{after_answer, after_step}, proofs.{Jobs.{at_job_has, at_job_is}, Markers.{marker_else, marker_set}}}
 
 -- marker k has a job, of which something is left, and the step makes this of the office
 pub record IsMade (plan : Tables) (e : Exchange) (k : ℕ) (after : Exchange) : Type 0 where
@@ -44,18 +33,21 @@ module _ (plan : Tables) (e : Exchange) (k : ℕ) where
   step_at n a at = at_job_is e (λ m i b. made_if (is_finished (act b)) m i b) e k n a at
 
   -- and of one of which something is left
-  pub step_made : (n : ℕ) (a : Attempt) (at : IsAt e k n a) → is_finished (act a) ≡ false → after_step plan k e ≡ after_answer plan k at.marker n a (answer_to_step k e.words a) e
+  pub step_made : (n : ℕ) (a : Attempt) (at : IsAt e k n a) → is_finished (act a) ≡ false
+      → after_step plan k e ≡ after_answer plan k at.marker n a (answer_to_step k e.words a) e
   step_made n a at goes = step_at n a at ∙ ap (λ (idle : Bool). made_if idle at.marker n a) goes
 
 -- and then it has gone on by its answer
-pub now_at : (plan : Tables) (e : Exchange) (k n : ℕ) (a : Attempt) (told : Answer) (at : IsAt e k n a) → IsAt (after_answer plan k at.marker n a told e) k n (change (office plan) a told)
+pub now_at : (plan : Tables) (e : Exchange) (k n : ℕ) (a : Attempt) (told : Answer) (at : IsAt e k n a)
+    → IsAt (after_answer plan k at.marker n a told e) k n (change (office plan) a told)
 now_at plan e k n a told at = record {
   marker = record at.marker { work = Does n (change (office plan) a told) };
   there = marker_set e.markers k _ at.marker at.there;
   work = refl;
 }
 
-pub gone_on : (plan : Tables) (e : Exchange) (k n : ℕ) (a : Attempt) → IsAt e k n a → is_finished (act a) ≡ false → IsAt (after_step plan k e) k n (change (office plan) a (answer_to_step k e.words a))
+pub gone_on : (plan : Tables) (e : Exchange) (k n : ℕ) (a : Attempt) → IsAt e k n a → is_finished (act a) ≡ false
+    → IsAt (after_step plan k e) k n (change (office plan) a (answer_to_step k e.words a))
 gone_on plan e k n a at goes =
     let told = answer_to_step k e.words a in
     subst (λ (x : Exchange). IsAt x k n (change (office plan) a told)) (sym (step_made plan e k n a at goes)) (now_at plan e k n a told at)

@@ -1,14 +1,8 @@
 -- what a step of a marker comes to
-use Rattle.std.proofs.Common.{◌≡◌, ℕ, Bool, true, refl, sym, ◌∙◌, ap}
-use Rattle.std.specs.Prelude.{Some, slice_get}
-use Rattle.turns.specs.Attempt.{act}
-use Rattle.turns.specs.Runs.{is_finished}
-use Rattle.turns.specs.World.{Idle, Does}
-use Rattle.xbar_plan.specs.Tables.{Tables}
-use Rattle.xbar_moves.specs.Exchange.{Exchange, Marker, Work, at_marker, is_idle, on_job}
-use Rattle.xbar_moves.specs.Moves.{event_at_step, event_by, after_step}
+use Rattle.std.proofs.Common.{◌≡◌, ℕ, Bool, true, refl, sym, ◌∙◌, ap, Some, slice_get}
+use Rattle.{turns.specs.{Attempt.act, Runs.is_finished, World.{Idle, Does}}, xbar_plan.specs.Tables.Tables, xbar_moves.specs.Exchange.{Exchange, Marker, Work}}
+use Rattle.xbar_moves.{specs.{Exchange.{at_marker, is_idle, on_job}, Moves.{event_at_step, event_by, after_step}}, proofs.StepCases.made_if}
 use Rattle.xbar_moves.specs.declared.event.Event.TheVariants as event
-use Rattle.xbar_moves.proofs.StepCases.{made_if}
 
 module _ (plan : Tables) (e : Exchange) (k : ℕ) (m : Marker) (there : slice_get e.markers k ≡ Some m) where
   -- an idle marker makes no step

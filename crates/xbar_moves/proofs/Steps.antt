@@ -1,23 +1,10 @@
 -- what a marker's step makes of the words and the records
-use Rattle.std.proofs.Common.{◌≡◌, ℕ, Bool, true, false, List, [], ◌++◌, refl, sym, ◌∙◌, ap, append-nil}
-use Rattle.std.specs.Prelude.{if◌then◌else◌}
-use Rattle.turns.specs.Attempt.{act, change}
-use Rattle.turns.specs.declared.act.Act.TheVariants.{Finished}
-use Rattle.turns.specs.Runs.{is_finished}
-use Rattle.turns.proofs.Runs.{rest_is}
-use Rattle.xbar_plan.specs.Tables.{Tables}
-use Rattle.xbar_office.specs.declared.reply.Record.{Record}
-use Rattle.xbar_jobs.specs.Attempt.{Attempt, step_of}
-use Rattle.xbar_jobs.specs.Office.{office}
-use Rattle.xbar_jobs.specs.OnWords.{answer_of}
-use Rattle.xbar_moves.specs.AtWork.{answer_to_step}
-use Rattle.xbar_moves.specs.Exchange.{Exchange}
-use Rattle.xbar_moves.specs.Holding.{IsAt}
-use Rattle.xbar_moves.specs.Moves.{event_at_step, event_of, added_record, after_step}
-use Rattle.xbar_moves.specs.declared.event.Event.{Event}
+use Rattle.std.proofs.Common.{◌≡◌, ℕ, Bool, true, false, List, [], ◌++◌, refl, sym, ◌∙◌, ap, append-nil, if◌then◌else◌}
+use Rattle.{turns.{specs.{Attempt.{act, change}, declared.act.Act.TheVariants.Finished, Runs.is_finished}, proofs.Runs.rest_is}, xbar_plan.specs.Tables.Tables}
+use Rattle.{xbar_office.specs.declared.reply.Record.Record, xbar_jobs.specs.{Attempt.{Attempt, step_of}, Office.office, OnWords.answer_of}}
+use Rattle.xbar_moves.specs.{AtWork.answer_to_step, Exchange.Exchange, Holding.IsAt, Moves.{event_at_step, event_of, added_record, after_step}}
+use Rattle.xbar_moves.{specs.declared.event.Event.Event, proofs.{Jobs.at_job_has, StepCases.{made_if, step_at}}}
 use Rattle.xbar_moves.specs.declared.event.Event.TheVariants as event
-use Rattle.xbar_moves.proofs.Jobs.{at_job_has}
-use Rattle.xbar_moves.proofs.StepCases.{made_if, step_at}
 
 module _ (plan : Tables) (e : Exchange) (k number : ℕ) (a : Attempt) (at : IsAt e k number a) where
   -- at rest nothing is recorded
@@ -27,7 +14,8 @@ module _ (plan : Tables) (e : Exchange) (k number : ℕ) (a : Attempt) (at : IsA
   -- a step adds the record of its turn, if it is one
   pub step_adds : (after_step plan k e).records ≡ e.records ++ added_record k number a (answer_to_step k e.words a)
   step_adds = ap (λ (after : Exchange). after.records) (step_at plan e k number a at) ∙ by (is_finished (act a)) refl where
-    by : (idle : Bool) → is_finished (act a) ≡ idle → (made_if plan e k idle at.marker number a).records ≡ e.records ++ added_record k number a (answer_to_step k e.words a)
+    by : (idle : Bool) → is_finished (act a) ≡ idle
+        → (made_if plan e k idle at.marker number a).records ≡ e.records ++ added_record k number a (answer_to_step k e.words a)
     by true idle = sym (ap (λ (more : List Record). e.records ++ more) (rest_adds (rest_is (act a) idle)) ∙ append-nil e.records)
     by false idle = refl
 

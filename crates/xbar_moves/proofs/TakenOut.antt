@@ -1,24 +1,11 @@
 -- what a decision opens: the crosspoints of paths that its job takes out, before it does anything else
-use Rattle.std.proofs.Common.{◌≡◌, ◌⊎◌, List, [], ◌∷◌, ◌++◌, map, inl, inr, refl, sym, ◌∙◌, ap, subst, append_assoc}
-use Rattle.std.specs.Prelude.{Option, Some, None}
-use Rattle.std.specs.Option.{option_map_or}
-use Rattle.turns.specs.Among.{IsIn}
-use Rattle.turns.proofs.Lists.{in_back, in_either, in_front}
-use Rattle.xbar_equip.specs.Crosspoint.{crosspoints}
-use Rattle.xbar_equip.specs.declared.crosspoint.Crosspoint.{Crosspoint}
-use Rattle.xbar_equip.specs.declared.path.Path.{Path}
-use Rattle.xbar_plan.specs.Tables.{Tables}
-use Rattle.xbar_office.specs.declared.job.Job.{Job}
+use Rattle.std.proofs.Common.{◌≡◌, ◌⊎◌, List, [], ◌∷◌, ◌++◌, map, inl, inr, refl, sym, ◌∙◌, ap, subst, append_assoc, Option, Some, None}
+use Rattle.{std.specs.Option.option_map_or, turns.{specs.Among.IsIn, proofs.Lists.{in_back, in_either, in_front}}, xbar_equip.specs.Crosspoint.crosspoints}
+use Rattle.{xbar_equip.specs.declared.{crosspoint.Crosspoint.Crosspoint, path.Path.Path}, xbar_plan.specs.Tables.Tables, xbar_office.specs.declared.job.Job.Job}
 use Rattle.xbar_jobs.specs.Closing.{called_closes, effects as effects_of, leave_effects, other_opens, path_closes, path_opens, take_effects}
-use Rattle.xbar_jobs.specs.Opening.{call_crosspoints}
-use Rattle.xbar_jobs.specs.declared.decision.Decision.{Decision}
-use Rattle.xbar_jobs.specs.declared.effect.Effect.{Effect}
-use Rattle.xbar_jobs.specs.declared.effect.Effect.TheVariants.{Close, Open, SetBit, ClearBit}
-use Rattle.xbar_jobs.specs.declared.leave.Leave.{Leave}
-use Rattle.xbar_jobs.specs.declared.take.Take.{Take}
-use Rattle.xbar_jobs.proofs.CallCrosspoints.{call_opens, of_call}
-use Rattle.xbar_moves.proofs.Among.{among_equip}
-use Rattle.xbar_moves.proofs.LetGo.{AreGone, IsGone, LetsGo, Nothing, Paths}
+use Rattle.xbar_jobs.specs.{Opening.call_crosspoints, declared.{decision.Decision.Decision, effect.Effect.Effect}}
+use Rattle.xbar_jobs.specs.declared.{effect.Effect.TheVariants.{Close, Open, SetBit, ClearBit}, leave.Leave.Leave, take.Take.Take}
+use Rattle.{xbar_jobs.proofs.CallCrosspoints.{call_opens, of_call}, xbar_moves.proofs.{Among.among_equip, LetGo.{AreGone, IsGone, LetsGo, Nothing, Paths}}}
 
 -- a crosspoint among those that effects open is one of these
 pub in_opens : (c : Crosspoint) (cs : List Crosspoint) → IsIn (Open c) (map Open cs) → IsIn c cs
@@ -66,7 +53,8 @@ record OpensFirst (effects : List Effect) (cs : List Crosspoint) : Type 0 where
   pub none : OpenNothing more
 
 -- what lets a call go opens its crosspoints first
-leave_opens : (leave : Leave) (taken : Option Take) → OpensFirst (leave_effects leave ++ option_map_or take_effects taken []) (call_crosspoints leave.own leave.other)
+leave_opens : (leave : Leave) (taken : Option Take)
+    → OpensFirst (leave_effects leave ++ option_map_or take_effects taken []) (call_crosspoints leave.own leave.other)
 leave_opens leave taken = record {
   more = ClearBit leave.group leave.index ∷ option_map_or take_effects taken [];
   are =
@@ -81,7 +69,8 @@ pub record AreOpens (effects : List Effect) : Type 0 where
   pub are : effects ≡ map Open cs
 
 -- as long as an opening is left, only openings were made
-opens_made : (cs : List Crosspoint) (more made left : List Effect) (c : Crosspoint) → map Open cs ++ more ≡ made ++ left → OpenNothing more → IsIn (Open c) left → AreOpens made
+opens_made : (cs : List Crosspoint) (more made left : List Effect) (c : Crosspoint) → map Open cs ++ more ≡ made ++ left → OpenNothing more → IsIn (Open c) left
+    → AreOpens made
 opens_made cs more [] left c same none within = record { cs = []; are = refl }
 opens_made [] more (effect ∷ made) left c same none within = absurd (none c (subst (IsIn (Open c)) (sym same) (in_back (Open c) (effect ∷ made) left within)))
 opens_made (d ∷ cs) more (effect ∷ made) left c same none within =
@@ -98,15 +87,18 @@ pub record IsOpened (plan : Tables) (paths : List Path) (job : Job) (decision : 
   pub all : (d : Crosspoint) → IsIn d (crosspoints path) → IsIn (Open d) (effects_of decision)
 
 -- a path of a call has its crosspoints among the call's
-of_path : (own : Path) (other : Option Path) (path : Path) → (path ≡ own) ⊎ (other ≡ Some path) → (d : Crosspoint) → IsIn d (crosspoints path) → IsIn d (call_crosspoints own other)
+of_path : (own : Path) (other : Option Path) (path : Path) → (path ≡ own) ⊎ (other ≡ Some path) → (d : Crosspoint) → IsIn d (crosspoints path)
+    → IsIn d (call_crosspoints own other)
 of_path own other path (inl same) d within = in_front d (crosspoints own) _ (subst (λ (p : Path). IsIn d (crosspoints p)) same within)
 of_path own None path (inr same) d within = absurd cc
-of_path own (Some beside) path (inr same) d within = let is : path ≡ beside = cc in in_back d (crosspoints own) (crosspoints beside) (subst (λ (p : Path). IsIn d (crosspoints p)) is within)
+of_path own (Some beside) path (inr same) d within = let is : path ≡ beside = cc in
+    in_back d (crosspoints own) (crosspoints beside) (subst (λ (p : Path). IsIn d (crosspoints p)) is within)
 
 module _ (plan : Tables) (paths : List Path) (job : Job) (decision : Decision) where
   nothing_let_go : decision.leave ≡ None → OpenNothing (effects_of decision)
   nothing_let_go none c within =
-      taken_opens decision.take c (subst (IsIn (Open c)) (ap (λ (leave : Option Leave). option_map_or leave_effects leave [] ++ option_map_or take_effects decision.take []) none) within)
+      taken_opens decision.take c (subst (IsIn (Open c))
+      (ap (λ (leave : Option Leave). option_map_or leave_effects leave [] ++ option_map_or take_effects decision.take []) none) within)
 
   first_opened : (leave : Leave) → decision.leave ≡ Some leave → OpensFirst (effects_of decision) (call_crosspoints leave.own leave.other)
   first_opened leave is =
@@ -131,13 +123,16 @@ module _ (plan : Tables) (paths : List Path) (job : Job) (decision : Decision) w
               path = call.path;
               has = call.there;
               goes = path_gone leave gone call.path call.goes;
-              all = λ d own. subst (IsIn (Open d)) (sym first.are) (in_front (Open d) (map Open cs) first.more (opens_in d cs (of_path leave.own leave.other call.path call.goes d own)));
+              all =
+                  λ d own. subst (IsIn (Open d)) (sym first.are) (in_front (Open d) (map Open cs) first.more
+                  (opens_in d cs (of_path leave.own leave.other call.path call.goes d own)));
             }
         | inr later ↦ absurd (first.none c later)
       ]
 
   -- as long as some of it is left, only openings were made
-  pub opens_so_far : LetsGo plan paths job decision → (made left : List Effect) → effects_of decision ≡ made ++ left → (c : Crosspoint) → IsIn (Open c) left → AreOpens made
+  pub opens_so_far : LetsGo plan paths job decision → (made left : List Effect) → effects_of decision ≡ made ++ left → (c : Crosspoint) → IsIn (Open c) left
+      → AreOpens made
   opens_so_far (Nothing none) made left are c within = absurd (nothing_let_go none c (subst (IsIn (Open c)) (sym are) (in_back (Open c) made left within)))
   opens_so_far (Paths leave is gone) made left are c within =
       let first = first_opened leave is in

@@ -1,39 +1,14 @@
 -- what a marker past its turn decided on words that show the set before its record, and what it has made of it
-use Rattle.std.proofs.Common.{◌≡◌, ℕ, zero, suc, List, [], ◌∷◌, ◌++◌, length, map, take, slice_index, refl, sym, ◌∙◌, ap, subst, arith}
-use Rattle.std.specs.Prelude.{Some, slice_get}
-use Rattle.std.proofs.lemmas.Option.{slice_get-map}
-use Rattle.turns.specs.Among.{IsIn}
-use Rattle.turns.specs.Law.{FitsIn, IsOperating, IsRecorded, IsSound}
-use Rattle.turns.specs.Script.{run}
-use Rattle.turns.specs.System.{AreDue, AreUnder, IsUnder}
+use Rattle.std.proofs.Common.{◌≡◌, ℕ, zero, suc, List, [], ◌∷◌, ◌++◌, length, map, take, slice_index, refl, sym, ◌∙◌, ap, subst, arith, Some, slice_get}
+use Rattle.{std.proofs.lemmas.Option.slice_get-map, turns.specs.{Among.IsIn, Law.{FitsIn, IsOperating, IsRecorded, IsSound}, Script.run}}
+use Rattle.turns.{specs.{System.{AreDue, AreUnder, IsUnder}, declared.phase.Phase.TheVariants.Operates}, proofs.Lists.in_back}
+use Rattle.{xbar_equip.specs.declared.path.Path.Path, xbar_plan.specs.{Tables.Tables, Lawful.IsLawful}, xbar_office.specs.Legal.{IsJob, after, after_jobs}}
+use Rattle.xbar_office.{specs.{Legal.jobs_of, Whole.whole, declared.{job.Job.Job, reply.{Record.Record, Reply.Reply}}}, proofs.AuditedRecords.replies_at}
+use Rattle.xbar_jobs.specs.{Attempt.Attempt, Closing.{effects as effects_of, value_after as made_of}, Jobs.script, Keeping.AreEffects}
+use Rattle.xbar_jobs.{specs.{Office.{ShowsOffice, office}, declared.{decision.Decision.Decision, effect.Effect.Effect}}, proofs.Covered.run_range}
+use Rattle.{xbar_jobs.proofs.OfficeSystem.script_decides, xbar_moves.specs.{Exchange.{Exchange, IsLawfulExchange, turned, world}, Holding.IsAt}}
+use Rattle.xbar_moves.{specs.Links.IsPastTurn, proofs.{HeldWords.past_turn, Actors.actor_at, FinishedJobs.{IsTurn, turn_there}, Records.replies_legal}}
 use Rattle.turns.specs.World as worlds
-use Rattle.turns.specs.declared.phase.Phase.TheVariants.{Operates}
-use Rattle.turns.proofs.Lists.{in_back}
-use Rattle.xbar_equip.specs.declared.path.Path.{Path}
-use Rattle.xbar_plan.specs.Tables.{Tables}
-use Rattle.xbar_plan.specs.Lawful.{IsLawful}
-use Rattle.xbar_office.specs.Legal.{IsJob, after, after_jobs, jobs_of}
-use Rattle.xbar_office.specs.Whole.{whole}
-use Rattle.xbar_office.specs.declared.job.Job.{Job}
-use Rattle.xbar_office.specs.declared.reply.Record.{Record}
-use Rattle.xbar_office.specs.declared.reply.Reply.{Reply}
-use Rattle.xbar_office.proofs.AuditedRecords.{replies_at}
-use Rattle.xbar_jobs.specs.Attempt.{Attempt}
-use Rattle.xbar_jobs.specs.Closing.{effects as effects_of, value_after as made_of}
-use Rattle.xbar_jobs.specs.Jobs.{script}
-use Rattle.xbar_jobs.specs.Keeping.{AreEffects}
-use Rattle.xbar_jobs.specs.Office.{ShowsOffice, office}
-use Rattle.xbar_jobs.specs.declared.decision.Decision.{Decision}
-use Rattle.xbar_jobs.specs.declared.effect.Effect.{Effect}
-use Rattle.xbar_jobs.proofs.Covered.{run_range}
-use Rattle.xbar_jobs.proofs.OfficeSystem.{script_decides}
-use Rattle.xbar_moves.specs.Exchange.{Exchange, IsLawfulExchange, turned, world}
-use Rattle.xbar_moves.specs.Holding.{IsAt}
-use Rattle.xbar_moves.specs.Links.{IsPastTurn}
-use Rattle.xbar_moves.proofs.HeldWords.{past_turn}
-use Rattle.xbar_moves.proofs.Actors.{actor_at}
-use Rattle.xbar_moves.proofs.FinishedJobs.{IsTurn, turn_there}
-use Rattle.xbar_moves.proofs.Records.{replies_legal}
 
 -- the set before a record
 abbrev pub before : Tables → Exchange → ℕ → List Path
@@ -60,7 +35,8 @@ pub record Decided (plan : Tables) (e : Exchange) (k : ℕ) (a : Attempt) : Type
 
 module _ (plan : Tables) where
   -- the set before a turn is that after the jobs of the records before it
-  before_same : (paths : List Path) (place : ℕ) (records : List Record) → worlds.after (office plan) paths (take place (map turned records)) ≡ after_jobs plan paths (jobs_of (take place records))
+  before_same : (paths : List Path) (place : ℕ) (records : List Record)
+      → worlds.after (office plan) paths (take place (map turned records)) ≡ after_jobs plan paths (jobs_of (take place records))
   before_same paths zero records = refl
   before_same paths (suc place) [] = refl
   before_same paths (suc place) (r ∷ records) = before_same (whole plan paths r.job).paths place records
@@ -72,7 +48,8 @@ module _ (plan : Tables) where
   next_there paths zero (x ∷ records) r here = let same : x ≡ r = cc in ap (λ (y : Record). (whole plan paths y.job).paths) same
   next_there paths (suc place) (x ∷ records) r here = next_there (whole plan paths x.job).paths place records r here
 
-module _ (plan : Tables) (laws : IsLawful plan) (e : Exchange) (lawful : IsLawfulExchange plan e) (k number turn : ℕ) (a : Attempt) (at : IsAt e k number a) (past : a.phase ≡ Operates turn) where
+module _ (plan : Tables) (laws : IsLawful plan) (e : Exchange) (lawful : IsLawfulExchange plan e) (k number turn : ℕ) (a : Attempt) (at : IsAt e k number a)
+    (past : a.phase ≡ Operates turn) where
   abbrev sound : IsSound (office plan) (world plan e) k number a
   sound = lawful.sound k number a (actor_at e k number a at)
 
@@ -83,7 +60,8 @@ module _ (plan : Tables) (laws : IsLawful plan) (e : Exchange) (lawful : IsLawfu
   known = fits.recorded
 
   abbrev found : IsTurn e.records known.place known.recorded
-  found = turn_there e.records known.place known.recorded (slice_get e.records known.place) refl (sym (slice_get-map turned e.records known.place) ∙ known.at_place)
+  found =
+      turn_there e.records known.place known.recorded (slice_get e.records known.place) refl (sym (slice_get-map turned e.records known.place) ∙ known.at_place)
 
   job_is : found.found.job ≡ a.job
   job_is = ap (λ (t : worlds.Record Job Reply). t.job) found.turn ∙ known.job

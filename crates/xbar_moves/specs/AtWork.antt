@@ -1,6 +1,5 @@
 use Rattle.std.specs.Prelude.{◌≡◌, ℕ, Bool, true, false, Option, Some, None, is_some, List, [], ⊤}
 use Rattle.turns.specs.Attempt.{turn_in}
-use Rattle.turns.specs.World.{Idle, Does}
 use Rattle.turns.specs.declared.answer.Answer.{Answer}
 use Rattle.turns.specs.declared.phase.Phase.TheVariants.{Requests, Seizes, Tests, Turns, Withdraws, GivesBack, Operates}
 use Rattle.xbar_equip.specs.declared.conn.Conn.{Conn}

@@ -3,7 +3,7 @@ use Rattle.turns.specs.Attempt.{act, asked_in, begin_with, change, request_in, r
 use Rattle.turns.specs.Runs.{is_finished}
 use Rattle.turns.specs.World.{Idle, Does}
 use Rattle.turns.specs.declared.answer.Answer.{Answer}
-use Rattle.turns.specs.declared.answer.Answer.TheVariants as answer
+use Rattle.turns.specs.declared.answer.Answer.TheVariants as answers
 use Rattle.xbar_equip.specs.declared.conn.Conn.{Conn}
 use Rattle.xbar_plan.specs.Tables.{Tables}
 use Rattle.xbar_office.specs.declared.job.Job.{Job}
@@ -54,16 +54,16 @@ record_of turn k number a =
 
 -- the record that an answer adds: that of a turn, else none
 abbrev pub added_record : ℕ → ℕ → Attempt → Answer → List Record
-added_record k number a (answer.Turn turn) = record_of turn k number a
+added_record k number a (answers.Turn turn) = record_of turn k number a
 added_record k number a _ = []
 
 -- the office after the next step of marker k's attempt, by its answer: the step has changed its
 -- word, the attempt has gone on by the answer, and a turn has added its record
 abbrev pub after_answer : Tables → ℕ → Marker → ℕ → Attempt → Answer → Exchange → Exchange
-after_answer plan k m number a told e = record {
+after_answer plan k m number a answer e = record {
   words = words_after k (next_step a) e.words;
-  markers = slice_set e.markers k (record m { work = Does number (change (office plan) a told) });
-  records = e.records ++ added_record k number a told;
+  markers = slice_set e.markers k (record m { work = Does number (change (office plan) a answer) });
+  records = e.records ++ added_record k number a answer;
 }
 
 -- the office after marker k's next step; an idle marker makes none
@@ -101,30 +101,30 @@ refused_by holder (Some conn) = event.Refused conn holder
 
 -- the event of a step, by its answer and the attempt after it
 abbrev pub event_of : ℕ → ℕ → Attempt → Attempt → Answer → Event
-event_of k number a after (answer.Held holder) = refused_by holder (asked_in a.phase)
-event_of k number a after (answer.Preferred other) = event.Preferred other
-event_of k number a after (answer.Asked word) = event.Moved
-event_of k number a after answer.Seized = event.Moved
-event_of k number a after (answer.Again word) = event.Moved
-event_of k number a after (answer.Value value) = event.Moved
-event_of k number a after (answer.Turn turn) = event.Moved
-event_of k number a after answer.Done = moved_on k number after (is_finished (act after))
+event_of k number a after (answers.Held holder) = refused_by holder (asked_in a.phase)
+event_of k number a after (answers.Preferred other) = event.Preferred other
+event_of k number a after (answers.Asked word) = event.Moved
+event_of k number a after answers.Seized = event.Moved
+event_of k number a after (answers.Again word) = event.Moved
+event_of k number a after (answers.Value value) = event.Moved
+event_of k number a after (answers.Turn turn) = event.Moved
+event_of k number a after answers.Done = moved_on k number after (is_finished (act after))
 
 -- the event of marker k's next step, by its work and the words
 abbrev pub event_by : Tables → ℕ → List ℕ → Work → Event
 event_by plan k words work =
     on_job event.Idle (λ number a.
-    let told = answer_of k (next_step a) words in
+    let answer = answer_of k (next_step a) words in
     if is_finished (act a) then event.Idle else event_of k number a
-    (change (office plan) a told) told)
+    (change (office plan) a answer) answer)
     work
 
 -- the answer to the next step of marker k, by which its work changes; None if it is idle
 abbrev pub IsAnswered : Tables → ℕ → List ℕ → Work → Work → Option Answer → Type 0
 IsAnswered plan k words before after None = is_idle before ≡ true
-IsAnswered plan k words before after (Some told) =
-    on_job ⊥ (λ number a. (is_finished (act a) ≡ false) × (told ≡ answer_of k (next_step a) words)
-    × (after ≡ Does number (change (office plan) a told)))
+IsAnswered plan k words before after (Some answer) =
+    on_job ⊥ (λ number a. (is_finished (act a) ≡ false) × (answer ≡ answer_of k (next_step a) words)
+    × (after ≡ Does number (change (office plan) a answer)))
     before
 
 -- the event of marker k's next step
@@ -133,14 +133,14 @@ event_at_step plan k e =
     at_marker event.Idle (λ m. event_by plan k e.words m.work) (slice_get e.markers k)
 
 -- a marker's work once its job is restarted; past its turn it stays as it is
-abbrev pub work_anew : Tables → Work → Work
-work_anew plan work = on_job Idle (λ number a. Does number (restarted (office plan) a)) work
+abbrev pub restarted_work : Tables → Work → Work
+restarted_work plan work = on_job Idle (λ number a. Does number (restarted (office plan) a)) work
 
 -- the office once marker k's job is restarted: unless it is past its turn, its next steps give
 -- back what it holds. No word changes
-abbrev pub begun_anew : Tables → ℕ → Exchange → Exchange
-begun_anew plan k e =
-    at_marker e (λ m. with_work k m (work_anew plan m.work) e) (slice_get e.markers k)
+abbrev pub restarted_at : Tables → ℕ → Exchange → Exchange
+restarted_at plan k e =
+    at_marker e (λ m. with_work k m (restarted_work plan m.work) e) (slice_get e.markers k)
 
 -- the outcome of asking a marker to give back, which is idle or not, and past its turn or not
 abbrev pub given_if : Bool → Bool → Given
@@ -177,4 +177,4 @@ backed_as given.Idle after before = before
 -- the office once marker k has given back all that it holds, if it does
 unfoldable pub given_back : Tables → ℕ → Exchange → Exchange
 given_back plan k e =
-    backed_as (given_at e k) (steps plan k (frees_left e k) (begun_anew plan k e)) e
+    backed_as (given_at e k) (steps plan k (frees_left e k) (restarted_at plan k e)) e

@@ -3,7 +3,7 @@ use Rattle.xbar_plan.specs.Tables.{Tables}
 use Rattle.xbar_office.specs.Legal.{IsJob}
 use Rattle.xbar_office.specs.declared.job.Job.{Job}
 use Rattle.xbar_moves.specs.Exchange.{Exchange, fresh_exchange}
-use Rattle.xbar_moves.specs.Moves.{assigned, begun_anew, given_back, refusal, after_step}
+use Rattle.xbar_moves.specs.Moves.{assigned, restarted_at, given_back, refusal, after_step}
 use Rattle.xbar_moves.specs.Settling.{settled}
 use Rattle.xbar_moves.specs.declared.kind.Kind.{Kind}
 use Rattle.std.specs.Prelude.{Option, None, Some}
@@ -14,7 +14,7 @@ use Rattle.xbar_moves.specs.declared.assign_fault.AssignFault.{AssignFault}
 pub data Move : Type 0 where
   Assigns : ℕ → ℕ → Job → Move
   Steps : ℕ → Move
-  BeginsAnew : ℕ → Move
+  Restarts : ℕ → Move
   GivesBack : ℕ → Move
   Settles : Move
 
@@ -29,7 +29,7 @@ abbrev pub after_move : Tables → Exchange → Move → Exchange
 after_move plan e (Assigns k number job) =
     unless_refused (refusal e k job) (assigned k number job e) e
 after_move plan e (Steps k) = after_step plan k e
-after_move plan e (BeginsAnew k) = begun_anew plan k e
+after_move plan e (Restarts k) = restarted_at plan k e
 after_move plan e (GivesBack k) = given_back plan k e
 after_move plan e Settles = settled plan e
 
@@ -46,7 +46,7 @@ run_of plan kinds moves = run_from plan (fresh_exchange kinds) moves
 abbrev pub IsMove : Move → Type 0
 IsMove (Assigns k number job) = IsJob job
 IsMove (Steps k) = ⊤
-IsMove (BeginsAnew k) = ⊤
+IsMove (Restarts k) = ⊤
 IsMove (GivesBack k) = ⊤
 IsMove Settles = ⊤
 

@@ -33,7 +33,7 @@ ghost use Rattle.xbar_jobs.specs.declared.effect.Effect.{Effect};
 ghost use Rattle.xbar_moves.specs.Exchange.{Exchange, IsLawfulExchange, Marker, is_idle, fresh_exchange, world};
 ghost use Rattle.xbar_moves.specs.Holding.{AsksFor, HasRequested, Holds, IsAt, TellsTruth, completed};
 ghost use Rattle.xbar_moves.specs.Links.{BelongsTo, IsAtLink, IsClosed, IsPastTurn, OpensItsOwn};
-ghost use Rattle.xbar_moves.specs.Moves.{assigned, begun_anew, event_at_step, given_back, added_record, refusal, after_step};
+ghost use Rattle.xbar_moves.specs.Moves.{assigned, restarted_at, event_at_step, given_back, added_record, refusal, after_step};
 ghost use Rattle.xbar_moves.specs.Runs.{AreMoves, Move, run_of};
 ghost use Rattle.xbar_moves.specs.Settling.{settled};
 ghost use Rattle.xbar_moves.specs.declared.event.Event.{Event};
@@ -49,8 +49,8 @@ pub fn every_move_keeps_the_law()
         IsLawfulExchange plan (assigned k number job e) }
     ensures steps { (plan : Tables) (e : Exchange) (k : ℕ) →
         IsLawful plan → IsLawfulExchange plan e → IsLawfulExchange plan (after_step plan k e) }
-    ensures begins_anew { (plan : Tables) (e : Exchange) (k : ℕ) →
-        IsLawful plan → IsLawfulExchange plan e → IsLawfulExchange plan (begun_anew plan k e) }
+    ensures restarts { (plan : Tables) (e : Exchange) (k : ℕ) →
+        IsLawful plan → IsLawfulExchange plan e → IsLawfulExchange plan (restarted_at plan k e) }
     ensures gives_back { (plan : Tables) (e : Exchange) (k : ℕ) →
         IsLawful plan → IsLawfulExchange plan e → IsLawfulExchange plan (given_back plan k e) }
     ensures settles { (plan : Tables) (e : Exchange) → IsLawful plan → IsLawfulExchange plan e →
@@ -207,9 +207,9 @@ pub fn moves_are_those_of_its_world()
         → world plan (after_step plan k e) ≡ worlds.moved (office plan) k number a (world plan e) }
     ensures holds { (plan : Tables) (e : Exchange) (k number : ℕ) (a : Attempt)
         → IsLawfulExchange plan e → IsAt e k number a → a.phase ≡ Phase.GivesBack → a.held ≢ [] }
-    ensures begins_anew { (plan : Tables) (e : Exchange) (k number : ℕ) (a : Attempt)
-        → IsAt e k number a → world plan (begun_anew plan k e)
-        ≡ worlds.given_back (office plan) k number a (world plan e) }
+    ensures restarts { (plan : Tables) (e : Exchange) (k number : ℕ) (a : Attempt)
+        → IsAt e k number a → world plan (restarted_at plan k e)
+        ≡ worlds.job_restarted (office plan) k number a (world plan e) }
     ensures assigns { (plan : Tables) (e : Exchange) (k number : ℕ) (job : Job)
         → world plan (assigned k number job e)
         ≡ worlds.assigned (office plan) k number job (world plan e) }

@@ -1,30 +1,11 @@
 -- what a job adds to a set: the paths that its end names
-use Rattle.std.proofs.Common.{◌≡◌, ◌≢◌, ℕ, ◌+◌, false, List, [], ◌∷◌, length, inl, refl, sym, ◌∙◌, ap, subst, arith}
-use Rattle.std.specs.Prelude.{Option, Some, None, is_some}
-use mathlib.Core.Bool.{true≢false}
-use Rattle.xbar_equip.specs.Ten.{TrunkPlace}
-use Rattle.xbar_equip.specs.Paths.{has_line, with_path}
-use Rattle.xbar_equip.specs.declared.path.Path.{Path}
-use Rattle.xbar_equip.proofs.PathSets.{in-with}
-use Rattle.xbar_equip.proofs.PathTests.{line_eq-exact}
-use Rattle.xbar_plan.specs.Tables.{Tables, member_at}
-use Rattle.xbar_plan.specs.Lawful.{IsLawful}
-use Rattle.xbar_plan.specs.declared.group.Member.{Member}
-use Rattle.xbar_office.specs.Done.{Done, refused, tried, with_added, chosen_paths}
-use Rattle.xbar_office.specs.LawfulSet.{IsLawfulSet}
-use Rattle.xbar_office.specs.Replies.{trials_end}
-use Rattle.xbar_office.specs.AddedPaths.{added_by, added_count}
+use Rattle.std.proofs.Common.{◌≡◌, ◌≢◌, ℕ, ◌+◌, false, List, [], ◌∷◌, length, inl, refl, sym, ◌∙◌, ap, subst, arith, Option, Some, None, is_some, true≢false}
+use Rattle.xbar_equip.{specs.{Ten.TrunkPlace, Paths.{has_line, with_path}, declared.path.Path.Path}, proofs.{PathSets.in-with, PathTests.line_eq-exact}}
+use Rattle.{xbar_plan.specs.{Tables.{Tables, member_at}, Lawful.IsLawful, declared.group.Member.Member}, xbar_office.specs.Done.{Done, refused, tried}}
+use Rattle.xbar_office.specs.{Done.{with_added, chosen_paths}, LawfulSet.IsLawfulSet, Replies.trials_end, AddedPaths.{added_by, added_count}}
+use Rattle.xbar_office.specs.declared.{reply.{Card.Card, End.End, Reply.Reply}, trial.CallPaths.CallPaths, two_trials.{Choice.Choice, Trials.Trials}}
+use Rattle.xbar_office.proofs.{AddedPaths.not_of_set, GoodTrials.GoodChoice, TakenMembers.CalledCanStand, TriedJobs.{lawful-tried, length-tried}}
 use Rattle.xbar_office.specs.declared.aim.Aim.TheVariants as aim
-use Rattle.xbar_office.specs.declared.reply.Card.{Card}
-use Rattle.xbar_office.specs.declared.reply.End.{End}
-use Rattle.xbar_office.specs.declared.reply.Reply.{Reply}
-use Rattle.xbar_office.specs.declared.trial.CallPaths.{CallPaths}
-use Rattle.xbar_office.specs.declared.two_trials.Choice.{Choice}
-use Rattle.xbar_office.specs.declared.two_trials.Trials.{Trials}
-use Rattle.xbar_office.proofs.AddedPaths.{not_of_set}
-use Rattle.xbar_office.proofs.GoodTrials.{GoodChoice}
-use Rattle.xbar_office.proofs.TakenMembers.{CalledCanStand}
-use Rattle.xbar_office.proofs.TriedJobs.{lawful-tried, length-tried}
 
 -- the two paths of a call are of different lines
 abbrev pub AreOfTwoLines : Option CallPaths → Type 0
@@ -40,7 +21,8 @@ pub record AddsPaths (plan : Tables) (paths : List Path) (done : Done) : Type 0 
   pub apart : AreOfTwoLines (added_by done.reply.end)
 
 -- so the reply determines what was added
-pub adds-by_reply : (plan : Tables) (paths : List Path) (done : Done) → AddsPaths plan paths done → (reply : Reply) (adds : Option CallPaths) → reply ≡ done.reply → adds ≡ added_by reply.end
+pub adds-by_reply : (plan : Tables) (paths : List Path) (done : Done) → AddsPaths plan paths done → (reply : Reply) (adds : Option CallPaths)
+    → reply ≡ done.reply → adds ≡ added_by reply.end
     → (with_added paths adds ≡ done.paths) × (length done.paths ≡ length paths + added_count adds)
 adds-by_reply plan paths done is reply adds same added =
     let e : adds ≡ added_by done.reply.end = added ∙ ap (λ (r : Reply). added_by r.end) same in
@@ -72,24 +54,29 @@ dial_tone_end None [] are = refl
 dial_tone_end None (card ∷ cards) are = refl
 dial_tone_end (Some choice) cards are = ap (λ (called : Option Path). Some (record { calling = choice.paths.calling; called = called })) (sym are)
 
-no_called : (plan : Tables) (paths : List Path) (second : Option TrunkPlace) (called : Option Path) → is_some second ≡ false → CalledCanStand plan paths second called → called ≡ None
+no_called : (plan : Tables) (paths : List Path) (second : Option TrunkPlace) (called : Option Path) → is_some second ≡ false
+    → CalledCanStand plan paths second called → called ≡ None
 no_called plan paths None None single can = refl
 no_called plan paths None (Some called) single can = absurd can
 no_called plan paths (Some second) called single can = absurd (true≢false single)
 
-alone_choice : (plan : Tables) (paths : List Path) (group : ℕ) → ((i : ℕ) (member : Member) → member_at plan group i ≡ Some member → is_some member.second ≡ false) → (choice : Option Choice) → GoodChoice plan paths group choice → AreAlone choice
+alone_choice : (plan : Tables) (paths : List Path) (group : ℕ)
+    → ((i : ℕ) (member : Member) → member_at plan group i ≡ Some member → is_some member.second ≡ false) → (choice : Option Choice)
+    → GoodChoice plan paths group choice → AreAlone choice
 alone_choice plan paths group single None good = tt
 alone_choice plan paths group single (Some choice) good =
     no_called plan (with_path paths choice.paths.calling) good.member.second choice.paths.called (single choice.index good.member good.listed) good.called
 
-called_line_apart : (plan : Tables) (paths : List Path) (second : Option TrunkPlace) (calling : Path) (o : Option Path) → CalledCanStand plan (with_path paths calling) second o → (called : Path) → o ≡ Some called → called.line ≢ calling.line
+called_line_apart : (plan : Tables) (paths : List Path) (second : Option TrunkPlace) (calling : Path) (o : Option Path)
+    → CalledCanStand plan (with_path paths calling) second o → (called : Path) → o ≡ Some called → called.line ≢ calling.line
 called_line_apart plan paths None calling None can called is same = cc
 called_line_apart plan paths None calling (Some other) can called is same = absurd can
 called_line_apart plan paths (Some second) calling None can called is same = absurd can
 called_line_apart plan paths (Some second) calling (Some other) can called is same =
     let one : other ≡ called = cc in
     let lines : calling.line ≡ other.line = sym same ∙ ap (λ (p : Path). p.line) (sym one) in
-    not_of_set (has_line other.line) (with_path paths calling) calling can.1.line ((line_eq-exact calling.line other.line).1 lines) (in-with paths calling calling (inl refl))
+    not_of_set (has_line other.line) (with_path paths calling) calling can.1.line ((line_eq-exact calling.line other.line).1 lines)
+    (in-with paths calling calling (inl refl))
 
 two_lines : (plan : Tables) (paths : List Path) (group : ℕ) (choice : Option Choice) → GoodChoice plan paths group choice → AreOfTwoLines (chosen_paths choice)
 two_lines plan paths group None good = tt
@@ -100,13 +87,16 @@ module _ (plan : Tables) (paths : List Path) (group : ℕ) (trials : Trials) (la
   pub connected-adds : AddsPaths plan paths (tried aim.Connected paths trials)
   connected-adds = record {
     added = ap (with_added paths) (sym (connected_end trials.choice trials.cards));
-    size = length-tried plan paths group trials.choice good ∙ ap (λ (a : Option CallPaths). length paths + added_count a) (sym (connected_end trials.choice trials.cards));
+    size =
+        length-tried plan paths group trials.choice good
+        ∙ ap (λ (a : Option CallPaths). length paths + added_count a) (sym (connected_end trials.choice trials.cards));
     lawful = lawful-tried plan paths group trials.choice good laws;
     apart = subst (λ (a : Option CallPaths). AreOfTwoLines a) (sym (connected_end trials.choice trials.cards)) (two_lines plan paths group trials.choice good);
   }
 
   -- and so does a dial tone job, on a group of members with one place
-  pub dial_tone-adds : ((i : ℕ) (member : Member) → member_at plan group i ≡ Some member → is_some member.second ≡ false) → AddsPaths plan paths (tried aim.DialTone paths trials)
+  pub dial_tone-adds : ((i : ℕ) (member : Member) → member_at plan group i ≡ Some member → is_some member.second ≡ false)
+      → AddsPaths plan paths (tried aim.DialTone paths trials)
   dial_tone-adds single =
       let same = dial_tone_end trials.choice trials.cards (alone_choice plan paths group single trials.choice good) in
       record {

@@ -1,17 +1,7 @@
-use Rattle.std.proofs.Common.{◌≡◌, ◌+◌, Bool, true, false, List, [], ◌∷◌, length, inl, inr, refl, sym, ◌∙◌, ap, arith}
-use mathlib.Core.Bool.{true≢false}
-use Rattle.std.specs.Prelude.{◌&&◌, ◌||◌, not}
-use Rattle.std.specs.List.{list_any}
-use Rattle.std.specs.Ordering.{match_ordering}
-use Rattle.std.specs.declared.cmp.Ordering.{Ordering}
-use Rattle.std.specs.declared.cmp.Ordering.TheVariants.{Less, Equal, Greater}
-use Rattle.xbar_equip.specs.Among.{IsIn}
-use Rattle.xbar_equip.specs.Path.{path_cmp}
-use Rattle.xbar_equip.specs.Paths.{with_path, is_idle}
-use Rattle.xbar_equip.specs.declared.path.Path.{Path}
-use Rattle.xbar_equip.proofs.Logic.{and_true, and_false}
-use Rattle.xbar_equip.proofs.PathOrder.{exact_path}
-use Rattle.xbar_equip.proofs.PathTests.{none-idle}
+use Rattle.std.proofs.Common.{◌≡◌, ◌+◌, Bool, true, false, List, [], ◌∷◌, length, inl, inr, refl, sym, ◌∙◌, ap, arith, true≢false, ◌&&◌, ◌||◌, not}
+use Rattle.std.specs.{List.list_any, Ordering.match_ordering, declared.cmp.Ordering.{Ordering, TheVariants.{Less, Equal, Greater}}}
+use Rattle.xbar_equip.specs.{Among.IsIn, Path.path_cmp, Paths.{with_path, is_idle}, declared.path.Path.Path}
+use Rattle.xbar_equip.proofs.{Logic.{and_true, and_false}, PathOrder.exact_path, PathTests.none-idle}
 
 turned : (a b c : Bool) → (a || (b || c)) ≡ (b || (a || c))
 turned true true c = refl
@@ -22,7 +12,9 @@ twice : (a c : Bool) → (a || c) ≡ (a || (a || c))
 twice true c = refl
 twice false c = refl
 
-any_with_at : (o : Ordering) (has : Path → Bool) (path p : Path) (paths : List Path) → path_cmp path p ≡ o → list_any has (with_path paths path) ≡ (has path || list_any has paths) → list_any has (match_ordering o (path ∷ p ∷ paths) (p ∷ paths) (p ∷ with_path paths path)) ≡ (has path || list_any has (p ∷ paths))
+any_with_at : (o : Ordering) (has : Path → Bool) (path p : Path) (paths : List Path) → path_cmp path p ≡ o
+    → list_any has (with_path paths path) ≡ (has path || list_any has paths)
+    → list_any has (match_ordering o (path ∷ p ∷ paths) (p ∷ paths) (p ∷ with_path paths path)) ≡ (has path || list_any has (p ∷ paths))
 any_with_at Less has path p paths e later = refl
 any_with_at Equal has path p paths e later =
     twice (has p) (list_any has paths) ∙ ap (λ (x : Path). has x || (has p || list_any has paths)) (sym (exact_path path p e))
@@ -55,7 +47,8 @@ idle-with_own has paths path own = idle-with has paths path ∙ ap (λ b. is_idl
 pub not_of_set : (has : Path → Bool) (paths : List Path) (path : Path) → is_idle has paths ≡ true → has path ≡ true → IsIn path paths → ⊥
 not_of_set has paths path idle own within = true≢false (sym own ∙ none-idle has paths idle path within)
 
-length_with_at : (o : Ordering) (path p : Path) (paths : List Path) → path_cmp path p ≡ o → (path ≡ p → ⊥) → length (with_path paths path) ≡ length paths + 1 → length (match_ordering o (path ∷ p ∷ paths) (p ∷ paths) (p ∷ with_path paths path)) ≡ length (p ∷ paths) + 1
+length_with_at : (o : Ordering) (path p : Path) (paths : List Path) → path_cmp path p ≡ o → (path ≡ p → ⊥) → length (with_path paths path) ≡ length paths + 1
+    → length (match_ordering o (path ∷ p ∷ paths) (p ∷ paths) (p ∷ with_path paths path)) ≡ length (p ∷ paths) + 1
 length_with_at Less path p paths e other later = omega arith
 length_with_at Equal path p paths e other later = absurd (other (exact_path path p e))
 length_with_at Greater path p paths e other later = omega (arith, later)

@@ -1,33 +1,14 @@
 -- the calling path of a call is of the calling line
-use Rattle.std.proofs.Common.{◌≡◌, ℕ, Bool, true, false, List, [], ◌∷◌, refl, sym, ◌∙◌, ap}
-use Rattle.std.specs.Prelude.{Option, Some, None, slice_get, option_map, option_and_then, if◌then◌else◌}
-use Rattle.std.specs.Option.{option_map_or}
-use Rattle.xbar_equip.specs.Dialled.{code_of, number_of}
-use Rattle.xbar_equip.specs.Len.{Line}
-use Rattle.xbar_equip.specs.Link.{Link}
-use Rattle.xbar_equip.specs.Path.{path_by}
-use Rattle.xbar_equip.specs.Paths.{channel_test, with_path, without_path}
-use Rattle.xbar_equip.specs.declared.path.Path.{Path}
-use Rattle.xbar_plan.specs.Tables.{Tables, lines_of, route_of}
-use Rattle.xbar_plan.specs.declared.group.Member.{Member}
-use Rattle.xbar_office.specs.Complete.{try_trunk, connect, call_line, call_number, call, complete_from, complete}
-use Rattle.xbar_office.specs.Members.{members_of, next_idle}
-use Rattle.xbar_office.specs.Replies.{trials_end}
-use Rattle.xbar_office.specs.Standing.{register_path}
-use Rattle.xbar_office.specs.Trial.{called_leg, with_called, matched, end_of, faulty_or_chosen, trial}
-use Rattle.xbar_office.specs.Trunks.{leads_inside, called_line, idle_trunk}
-use Rattle.xbar_office.specs.TwoTrials.{first_decides, second_decides, trial_at, two_trials}
+use Rattle.std.proofs.Common.{◌≡◌, ℕ, Bool, true, false, List, [], ◌∷◌, refl, sym, ◌∙◌, ap, Option, Some, None, slice_get, option_map, option_and_then}
+use Rattle.std.proofs.Common.{if◌then◌else◌}
+use Rattle.{std.specs.Option.option_map_or, xbar_equip.specs.{Dialled.{code_of, number_of}, Len.Line, Link.Link, Path.path_by, Paths.{channel_test, with_path}}}
+use Rattle.{xbar_equip.specs.{Paths.without_path, declared.path.Path.Path}, xbar_plan.specs.{Tables.{Tables, lines_of, route_of}, declared.group.Member.Member}}
+use Rattle.xbar_office.specs.{Complete.{try_trunk, connect, call_line, call_number, call, complete_from, complete}, Members.{members_of, next_idle}}
+use Rattle.xbar_office.specs.{Replies.trials_end, Standing.register_path, Trial.{called_leg, with_called, matched, end_of, faulty_or_chosen, trial}}
+use Rattle.xbar_office.specs.{Trunks.{leads_inside, called_line, idle_trunk}, TwoTrials.{first_decides, second_decides, trial_at, two_trials}}
+use Rattle.xbar_office.specs.declared.{reply.{Card.Card, End.{End, TheVariants.Connected}}, route.IdleTrunk.IdleTrunk, trial.{CallPaths.CallPaths, Leg.Leg}}
+use Rattle.xbar_office.specs.declared.{trial.{Parties.Parties, TrialEnd.{TrialEnd, TheVariants.{Chosen, Faulty, NoChannel}}}, two_trials.Choice.Choice}
 use Rattle.xbar_office.specs.declared.aim.Aim.TheVariants as aim
-use Rattle.xbar_office.specs.declared.reply.Card.{Card}
-use Rattle.xbar_office.specs.declared.reply.End.{End}
-use Rattle.xbar_office.specs.declared.reply.End.TheVariants.{Connected}
-use Rattle.xbar_office.specs.declared.route.IdleTrunk.{IdleTrunk}
-use Rattle.xbar_office.specs.declared.trial.CallPaths.{CallPaths}
-use Rattle.xbar_office.specs.declared.trial.Leg.{Leg}
-use Rattle.xbar_office.specs.declared.trial.Parties.{Parties}
-use Rattle.xbar_office.specs.declared.trial.TrialEnd.{TrialEnd}
-use Rattle.xbar_office.specs.declared.trial.TrialEnd.TheVariants.{Chosen, Faulty, NoChannel}
-use Rattle.xbar_office.specs.declared.two_trials.Choice.{Choice}
 
 module _ (plan : Tables) (paths : List Path) (parties : Parties) where
   abbrev IsFound : Option CallPaths → Type 0
@@ -43,15 +24,18 @@ module _ (plan : Tables) (paths : List Path) (parties : Parties) where
   IsChoice None = Unit {0}
   IsChoice (Some choice) = choice.paths.calling.line ≡ parties.calling
 
-  with_called_path : (calling : Path) → calling.line ≡ parties.calling → (found : Option Path) → IsFound (option_map (λ called. record { calling = calling; called = Some called }) found)
+  with_called_path : (calling : Path) → calling.line ≡ parties.calling → (found : Option Path)
+      → IsFound (option_map (λ called. record { calling = calling; called = Some called }) found)
   with_called_path calling is None = tt
   with_called_path calling is (Some called) = is
 
   with_called_is : (start : ℕ) (leg : Option Leg) (calling : Path) → calling.line ≡ parties.calling → IsFound (with_called paths start leg calling)
   with_called_is start None calling is = is
-  with_called_is start (Some leg) calling is = with_called_path calling is (option_map (path_by leg.line leg.place) (channel_test (with_path paths calling) leg.line leg.place start))
+  with_called_is start (Some leg) calling is =
+      with_called_path calling is (option_map (path_by leg.line leg.place) (channel_test (with_path paths calling) leg.line leg.place start))
 
-  matched_is : (start : ℕ) (member : Member) (found : Option ℕ) → IsFound (option_and_then (with_called paths start (called_leg parties member)) (option_map (path_by parties.calling member.first) found))
+  matched_is : (start : ℕ) (member : Member) (found : Option ℕ)
+      → IsFound (option_and_then (with_called paths start (called_leg parties member)) (option_map (path_by parties.calling member.first) found))
   matched_is start member None = tt
   matched_is start member (Some channel) = with_called_is start (called_leg parties member) (path_by parties.calling member.first channel) refl
 
@@ -81,7 +65,8 @@ module _ (plan : Tables) (paths : List Path) (parties : Parties) where
   pub trials_is : (members : List Member) (first : ℕ) → IsChoice (two_trials plan paths parties members first).choice
   trials_is members first =
       let next = next_idle paths members first in
-      first_is first (trial_at plan paths 0 parties members first) next (trial_at plan paths 5 parties members next) (trial_is 0 (slice_get members first)) (trial_is 5 (slice_get members next))
+      first_is first (trial_at plan paths 0 parties members first) next (trial_at plan paths 5 parties members next) (trial_is 0 (slice_get members first))
+      (trial_is 5 (slice_get members next))
 
   -- the calling path of this end is of the calling line
   abbrev pub JoinsCalling : End → Type 0
@@ -104,20 +89,24 @@ module _ (plan : Tables) (paths : List Path) (parties : Parties) where
 
 -- so the calling path of a completed call is of the line that dialled
 module _ (plan : Tables) (line : Line) (calling : Path) (called : Option Path) (trial : ℕ) where
-  line_joins : (paths : List Path) (groups : List ℕ) (found : Option Line) → (call_line plan paths line groups found).reply.end ≡ Connected calling called trial → calling.line ≡ line
+  line_joins : (paths : List Path) (groups : List ℕ) (found : Option Line) → (call_line plan paths line groups found).reply.end ≡ Connected calling called trial
+      → calling.line ≡ line
   line_joins paths groups None e = cc
   line_joins paths groups (Some other) e = connect_joins plan paths (record { calling = line; called = Some other }) groups calling called trial e
 
-  number_joins : (paths : List Path) (groups : List ℕ) (found : Option (List Line)) → (call_number plan paths line groups found).reply.end ≡ Connected calling called trial → calling.line ≡ line
+  number_joins : (paths : List Path) (groups : List ℕ) (found : Option (List Line))
+      → (call_number plan paths line groups found).reply.end ≡ Connected calling called trial → calling.line ≡ line
   number_joins paths groups None e = cc
   number_joins paths groups (Some lines) e = line_joins paths groups (called_line paths line lines) e
 
   route_joins : (paths : List Path) (dialled : ℕ) (groups : List ℕ) (b : Bool)
-      → (if b then call_number plan paths line groups (lines_of plan (number_of dialled)) else connect plan paths (record { calling = line; called = None }) groups).reply.end ≡ Connected calling called trial → calling.line ≡ line
+      → (if b then call_number plan paths line groups (lines_of plan (number_of dialled)) else connect plan paths (record { calling = line; called = None })
+      groups).reply.end ≡ Connected calling called trial → calling.line ≡ line
   route_joins paths dialled groups true e = number_joins paths groups (lines_of plan (number_of dialled)) e
   route_joins paths dialled groups false e = connect_joins plan paths (record { calling = line; called = None }) groups calling called trial e
 
-  call_joins : (paths : List Path) (dialled : ℕ) (found : Option (List ℕ)) → (call plan paths line dialled found).reply.end ≡ Connected calling called trial → calling.line ≡ line
+  call_joins : (paths : List Path) (dialled : ℕ) (found : Option (List ℕ)) → (call plan paths line dialled found).reply.end ≡ Connected calling called trial
+      → calling.line ≡ line
   call_joins paths dialled None e = cc
   call_joins paths dialled (Some groups) e = route_joins paths dialled groups (leads_inside plan groups) e
 

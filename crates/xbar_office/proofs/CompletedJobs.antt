@@ -1,26 +1,14 @@
 -- a completing job of a line that has a register
-use Rattle.std.proofs.Common.{◌≡◌, ℕ, ◌+◌, true, List, length, refl, sym, ◌∙◌, ap, subst}
-use Rattle.std.specs.Prelude.{Option, Some, None}
-use Rattle.xbar_equip.specs.Among.{IsIn}
-use Rattle.xbar_equip.specs.Dialled.{code_of}
-use Rattle.xbar_equip.specs.Len.{Line, IsLine}
-use Rattle.xbar_equip.specs.Paths.{has_line, is_idle, with_path, without_path}
-use Rattle.xbar_equip.specs.declared.path.Path.{Path}
-use Rattle.xbar_plan.specs.Tables.{Tables, route_of}
-use Rattle.xbar_plan.specs.Lawful.{IsLawful}
-use Rattle.xbar_office.specs.Complete.{call, complete, complete_from}
-use Rattle.xbar_office.specs.Done.{Done, with_added}
-use Rattle.xbar_office.specs.LawfulSet.{IsLawfulSet}
-use Rattle.xbar_office.specs.AddedPaths.{added_by, added_count}
-use Rattle.xbar_office.specs.Standing.{register_path}
-use Rattle.xbar_office.specs.declared.reply.Reply.{Reply}
-use Rattle.xbar_office.specs.declared.trial.CallPaths.{CallPaths}
-use Rattle.xbar_office.proofs.AddedByEnd.{AddsPaths, adds-by_reply}
-use Rattle.xbar_office.proofs.CallJobs.{call-adds}
-use Rattle.xbar_office.proofs.RegisterPaths.{IsRegisterPath, register_path-is, ends_at_register-is, lawful-without_register, line-without}
+use Rattle.std.proofs.Common.{◌≡◌, ℕ, ◌+◌, true, List, length, refl, sym, ◌∙◌, ap, subst, Option, Some, None}
+use Rattle.xbar_equip.specs.{Among.IsIn, Dialled.code_of, Len.{Line, IsLine}, Paths.{has_line, is_idle, with_path, without_path}, declared.path.Path.Path}
+use Rattle.xbar_plan.specs.{Tables.{Tables, route_of}, Lawful.IsLawful}
+use Rattle.xbar_office.specs.{Complete.{call, complete, complete_from}, Done.{Done, with_added}, LawfulSet.IsLawfulSet, AddedPaths.{added_by, added_count}}
+use Rattle.xbar_office.{specs.{Standing.register_path, declared.{reply.Reply.Reply, trial.CallPaths.CallPaths}}, proofs.AddedByEnd.{AddsPaths, adds-by_reply}}
+use Rattle.xbar_office.proofs.{CallJobs.call-adds, RegisterPaths.{IsRegisterPath, register_path-is, ends_at_register-is, lawful-without_register, line-without}}
 use Rattle.xbar_office.proofs.RemovedPaths.{with-without, length-without}
 
-module _ (plan : Tables) (paths : List Path) (line : Line) (dialled : ℕ) (own : Path) (laws : IsLawful plan) (lawful : IsLawfulSet plan paths) (in_range : IsLine line) (register : register_path plan paths line ≡ Some own) where
+module _ (plan : Tables) (paths : List Path) (line : Line) (dialled : ℕ) (own : Path) (laws : IsLawful plan) (lawful : IsLawfulSet plan paths)
+    (in_range : IsLine line) (register : register_path plan paths line ≡ Some own) where
   is : IsRegisterPath plan paths line own
   is = register_path-is plan paths line own register
 
@@ -55,7 +43,9 @@ pub record IsCalling (plan : Tables) (paths : List Path) (line : Line) (dialled 
   pub reply : told ≡ (call plan (without_path paths own) line dialled (route_of plan (code_of dialled))).reply
 
 -- `seen` and `left` are the set as it was read before the path was removed and after
-pub calling : {plan : Tables} {paths seen taken left : List Path} {line : Line} {dialled : ℕ} {found : Option Path} {own : Path} {told : Reply} → IsLawful plan → IsLawfulSet plan paths → IsLine line → seen ≡ paths → found ≡ register_path plan seen line → found ≡ Some own → taken ≡ without_path paths own → left ≡ taken → told ≡ (call plan left line dialled (route_of plan (code_of dialled))).reply → IsCalling plan paths line dialled own left told
+pub calling : {plan : Tables} {paths seen taken left : List Path} {line : Line} {dialled : ℕ} {found : Option Path} {own : Path} {told : Reply} → IsLawful plan
+    → IsLawfulSet plan paths → IsLine line → seen ≡ paths → found ≡ register_path plan seen line → found ≡ Some own → taken ≡ without_path paths own
+    → left ≡ taken → told ≡ (call plan left line dialled (route_of plan (code_of dialled))).reply → IsCalling plan paths line dialled own left told
 calling {plan} {paths} {seen} {taken} {left} {line} {dialled} laws lawful in_range read finds is takes reads_again tells =
     let rest : left ≡ without_path paths _ = reads_again ∙ takes in
     record {
@@ -67,7 +57,8 @@ calling {plan} {paths} {seen} {taken} {left} {line} {dialled} laws lawful in_ran
       reply = tells ∙ ap (λ (p : List Path). (call plan p line dialled (route_of plan (code_of dialled))).reply) rest;
     }
 
-module _ {plan : Tables} {paths left : List Path} {line : Line} {dialled : ℕ} {own : Path} {told : Reply} (is : IsCalling plan paths line dialled own left told) where
+module _ {plan : Tables} {paths left : List Path} {line : Line} {dialled : ℕ} {own : Path} {told : Reply}
+    (is : IsCalling plan paths line dialled own left told) where
   within : IsIn own paths
   within = (register_path-is plan paths line own is.register).within
 
@@ -78,17 +69,21 @@ module _ {plan : Tables} {paths left : List Path} {line : Line} {dialled : ℕ} 
   put_back = with-without paths own is.lawful.orderly.set within
 
   -- the reply determines what is added to the set that is left
-  pub adds-by_told : (added : Option CallPaths) → added ≡ added_by told.end → (with_added left added ≡ (complete plan paths line dialled).paths) × (length (complete plan paths line dialled).paths ≡ length left + added_count added)
+  pub adds-by_told : (added : Option CallPaths) → added ≡ added_by told.end
+      → (with_added left added ≡ (complete plan paths line dialled).paths) × (length (complete plan paths line dialled).paths ≡ length left + added_count added)
   adds-by_told added is_added =
       let called = call plan (without_path paths own) line dialled (route_of plan (code_of dialled)) in
       let whole : complete plan paths line dialled ≡ called = complete-is_call plan paths line dialled own is.laws is.lawful is.in_range is.register in
-      let by = adds-by_reply plan (without_path paths own) called (adds plan paths line dialled own is.laws is.lawful is.in_range is.register) told added is.reply is_added in (
+      let by =
+      adds-by_reply plan (without_path paths own) called (adds plan paths line dialled own is.laws is.lawful is.in_range is.register) told added is.reply
+      is_added in (
         ap (λ (p : List Path). with_added p added) is.rest ∙ by.0 ∙ ap (λ (d : Done). d.paths) (sym whole),
         ap (λ (d : Done). length d.paths) whole ∙ by.1 ∙ ap (λ (p : List Path). length p + added_count added) (sym is.rest),
       )
 
 -- a completing job leaves a lawful set
-pub lawful-complete : (plan : Tables) (paths : List Path) (line : Line) (dialled : ℕ) → IsLawful plan → IsLawfulSet plan paths → IsLine line → IsLawfulSet plan (complete plan paths line dialled).paths
+pub lawful-complete : (plan : Tables) (paths : List Path) (line : Line) (dialled : ℕ) → IsLawful plan → IsLawfulSet plan paths → IsLine line
+    → IsLawfulSet plan (complete plan paths line dialled).paths
 lawful-complete plan paths line dialled laws lawful in_range = of (register_path plan paths line) refl where
   of : (found : Option Path) → register_path plan paths line ≡ found → IsLawfulSet plan (complete_from plan paths line dialled found).paths
   of None e = lawful

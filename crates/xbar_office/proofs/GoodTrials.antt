@@ -1,46 +1,26 @@
 -- what trials on a group choose can be added to the set
-use Rattle.std.proofs.Common.{◌≡◌, ◌≢◌, ℕ, ◌+◌, ◌-◌, Bool, true, false, List, [], length, inl, refl, sym, ◌∙◌, ap, subst, arith}
-use Rattle.std.specs.Prelude.{Option, Some, None, is_some, slice_get, unwrap_or, option_map, option_and_then, option_to_list}
-use Rattle.std.specs.Option.{option_map_or}
-use Rattle.std.specs.List.{list_all}
-use mathlib.Core.Bool.{true≢false}
-use Rattle.xbar_equip.specs.First.{first_below, IsFirstBelow}
-use Rattle.xbar_equip.specs.Len.{Line, IsLine}
-use Rattle.xbar_equip.specs.Ten.{TrunkPlace, IsTrunkPlace}
-use Rattle.xbar_equip.specs.Link.{Link}
-use Rattle.xbar_equip.specs.Path.{path_by}
-use Rattle.xbar_equip.specs.Paths.{has_line, has_place, is_idle, has_idle_links, channel_in_turn, channel_test, IsFirstIdleChannel, with_path}
-use Rattle.xbar_equip.specs.declared.path.Path.{Path}
-use Rattle.xbar_equip.proofs.FirstNumber.{first_below-law, in_turn-law}
-use Rattle.xbar_equip.proofs.Lists.{each_passes}
-use Rattle.xbar_equip.proofs.Logic.{both}
-use Rattle.xbar_equip.proofs.PathTests.{line_eq-exact, place_eq-exact}
-use Rattle.xbar_plan.specs.Group.{TrunkGroup, places}
-use Rattle.xbar_plan.specs.Tables.{Tables, member_at}
-use Rattle.xbar_plan.specs.Lawful.{IsLawful}
-use Rattle.xbar_plan.specs.declared.group.Member.{Member}
-use Rattle.xbar_plan.proofs.LawfulPlans.{has-stands_at, place_at-range, pair-apart}
-use Rattle.xbar_office.specs.LawfulSet.{IsMembersPlace}
-use Rattle.xbar_office.specs.Members.{members_of, is_member_idle, is_idle_at, next_idle}
-use Rattle.xbar_office.specs.Trial.{faulty_or_chosen, end_of, with_called, matched, called_leg, trial}
-use Rattle.xbar_office.specs.TwoTrials.{second_decides, first_decides, trial_at, two_trials}
-use Rattle.xbar_office.specs.declared.reply.Card.{Card}
-use Rattle.xbar_office.specs.declared.trial.CallPaths.{CallPaths}
-use Rattle.xbar_office.specs.declared.trial.Parties.{Parties}
-use Rattle.xbar_office.specs.declared.trial.TrialEnd.{TrialEnd}
-use Rattle.xbar_office.specs.declared.trial.TrialEnd.TheVariants.{Chosen, Faulty, NoChannel}
-use Rattle.xbar_office.specs.declared.two_trials.Choice.{Choice}
-use Rattle.xbar_office.proofs.AddedPaths.{idle-with_other}
-use Rattle.xbar_office.proofs.StandingPaths.{CanStand}
-use Rattle.xbar_office.proofs.TakenMembers.{CanTake, CalledCanStand, second-has}
+use Rattle.std.proofs.Common.{◌≡◌, ◌≢◌, ℕ, ◌+◌, ◌-◌, Bool, true, false, List, [], length, inl, refl, sym, ◌∙◌, ap, subst, arith, Option, Some, None, is_some}
+use Rattle.std.proofs.Common.{slice_get, unwrap_or, option_map, option_and_then, option_to_list, true≢false}
+use Rattle.std.specs.{Option.option_map_or, List.list_all}
+use Rattle.xbar_equip.specs.{First.{first_below, IsFirstBelow}, Len.{Line, IsLine}, Ten.{TrunkPlace, IsTrunkPlace}, Link.Link, Path.path_by, Paths.has_line}
+use Rattle.xbar_equip.specs.{Paths.{has_place, is_idle, has_idle_links, channel_in_turn, channel_test, IsFirstIdleChannel, with_path}, declared.path.Path.Path}
+use Rattle.xbar_equip.proofs.{FirstNumber.{first_below-law, in_turn-law}, Lists.each_passes, Logic.both, PathTests.{line_eq-exact, place_eq-exact}}
+use Rattle.xbar_plan.specs.{Group.{TrunkGroup, places}, Tables.{Tables, member_at}, Lawful.IsLawful, declared.group.Member.Member}
+use Rattle.{xbar_plan.proofs.LawfulPlans.{has-stands_at, place_at-range, pair-apart}, xbar_office.specs.{LawfulSet.IsMembersPlace, Members.members_of}}
+use Rattle.xbar_office.specs.{Members.{is_member_idle, is_idle_at, next_idle}, Trial.{faulty_or_chosen, end_of, with_called, matched, called_leg, trial}}
+use Rattle.xbar_office.specs.{TwoTrials.{second_decides, first_decides, trial_at, two_trials}, declared.{reply.Card.Card, trial.CallPaths.CallPaths}}
+use Rattle.xbar_office.specs.declared.{trial.{Parties.Parties, TrialEnd.{TrialEnd, TheVariants.{Chosen, Faulty, NoChannel}}}, two_trials.Choice.Choice}
+use Rattle.xbar_office.proofs.{AddedPaths.idle-with_other, StandingPaths.CanStand, TakenMembers.{CanTake, CalledCanStand, second-has}}
 
 -- a member of a group is a member of the plan
-pub at_group : (i : ℕ) (member : Member) (o : Option TrunkGroup) → slice_get (option_map_or (λ found. found.members) o []) i ≡ Some member → option_and_then (λ found. slice_get found.members i) o ≡ Some member
+pub at_group : (i : ℕ) (member : Member) (o : Option TrunkGroup) → slice_get (option_map_or (λ found. found.members) o []) i ≡ Some member
+    → option_and_then (λ found. slice_get found.members i) o ≡ Some member
 at_group i member None e = e
 at_group i member (Some group) e = e
 
 -- the next idle member is idle, if the first one is
-next_is_idle : (paths : List Path) (members : List Member) (first : ℕ) → is_idle_at paths members first ≡ true → is_idle_at paths members (next_idle paths members first) ≡ true
+next_is_idle : (paths : List Path) (members : List Member) (first : ℕ) → is_idle_at paths members first ≡ true
+    → is_idle_at paths members (next_idle paths members first) ≡ true
 next_is_idle paths members first idle = of (first_below after bound) (first_below-law after bound) where
   after : ℕ → Bool
   after k = is_idle_at paths members (first + 1 + k)
@@ -48,7 +28,8 @@ next_is_idle paths members first idle = of (first_below after bound) (first_belo
   bound : ℕ
   bound = length members - (first + 1)
 
-  of : (found : Option ℕ) → IsFirstBelow (λ k. is_idle_at paths members (first + 1 + k)) (length members - (first + 1)) found → is_idle_at paths members (unwrap_or (option_map (λ k. first + 1 + k) found) first) ≡ true
+  of : (found : Option ℕ) → IsFirstBelow (λ k. is_idle_at paths members (first + 1 + k)) (length members - (first + 1)) found
+      → is_idle_at paths members (unwrap_or (option_map (λ k. first + 1 + k) found) first) ≡ true
   of None none = idle
   of (Some k) is = is.1
 
@@ -65,7 +46,9 @@ record CanJoin (plan : Tables) (paths : List Path) (line : Line) (place : TrunkP
   own : IsMembersPlace plan place
 
 -- the channel test joins them, if it finds a channel
-joined : (plan : Tables) (paths : List Path) (line : Line) (place : TrunkPlace) (start k channel : ℕ) → CanJoin plan paths line place → channel ≡ channel_in_turn start k → has_idle_links paths (path_by line place (channel_in_turn start k)) ≡ true → CanStand plan paths (path_by line place channel)
+joined : (plan : Tables) (paths : List Path) (line : Line) (place : TrunkPlace) (start k channel : ℕ) → CanJoin plan paths line place
+    → channel ≡ channel_in_turn start k → has_idle_links paths (path_by line place (channel_in_turn start k)) ≡ true
+    → CanStand plan paths (path_by line place channel)
 joined plan paths line place start k channel can turn links = record {
   range = record { line = can.is_line; channel = omega (arith, turn); place = can.is_place };
   line = can.line_idle;
@@ -75,7 +58,8 @@ joined plan paths line place start k channel can turn links = record {
 }
 
 -- the channel test finds the first idle channel
-pub channel_found : (paths : List Path) (line : Line) (place : TrunkPlace) (start : ℕ) → IsFirstIdleChannel paths line place start (channel_test paths line place start)
+pub channel_found : (paths : List Path) (line : Line) (place : TrunkPlace) (start : ℕ)
+    → IsFirstIdleChannel paths line place start (channel_test paths line place start)
 channel_found paths line place start =
     let test = λ (k : ℕ). has_idle_links paths (path_by line place (channel_in_turn start k)) in
     in_turn-law test (channel_in_turn start) (first_below test 10) (first_below-law test 10)
@@ -116,7 +100,8 @@ module _ (plan : Tables) (paths : List Path) (group : ℕ) (parties : Parties) (
   -- a place of an idle member can be joined to the line
   module _ (i start : ℕ) (member : Member) (listed : member_at plan group i ≡ Some member) (idle : is_member_idle paths member ≡ true) where
     first_idle_place : is_idle (has_place member.first) paths ≡ true
-    first_idle_place = (both (is_idle (has_place member.first) paths) (list_all (λ place. is_idle (has_place place) paths) (option_to_list member.second)) idle).0
+    first_idle_place =
+        (both (is_idle (has_place member.first) paths) (list_all (λ place. is_idle (has_place place) paths) (option_to_list member.second)) idle).0
 
     calling_joins : CanJoin plan paths parties.calling member.first
     calling_joins = record {
@@ -129,23 +114,31 @@ module _ (plan : Tables) (paths : List Path) (group : ℕ) (parties : Parties) (
 
     -- the called line can be joined to the second place beside the calling path
     module _ (calling : Path) (stands : CanStand plan paths calling) (line_is : calling.line ≡ parties.calling) (first_is : calling.place ≡ member.first) where
-      called_joins : (line : Line) → parties.called ≡ Some line → (second : TrunkPlace) → member.second ≡ Some second → CanJoin plan (with_path paths calling) line second
+      called_joins : (line : Line) → parties.called ≡ Some line → (second : TrunkPlace) → member.second ≡ Some second
+          → CanJoin plan (with_path paths calling) line second
       called_joins line called second paired =
           let within = second-has member second paired in
-          let other_line : has_line line calling ≡ false = false_unless (has_line line calling) (λ same. are.apart line called (sym line_is ∙ (line_eq-exact calling.line line).0 same)) in
-          let other_place : has_place second calling ≡ false = false_unless (has_place second calling) (λ same. pair-apart plan laws group i member second listed paired (sym ((place_eq-exact calling.place second).0 same) ∙ first_is)) in
+          let other_line : has_line line calling ≡ false =
+          false_unless (has_line line calling) (λ same. are.apart line called (sym line_is ∙ (line_eq-exact calling.line line).0 same)) in
+          let other_place : has_place second calling ≡ false =
+          false_unless (has_place second calling) (λ same. pair-apart plan laws group i member second listed paired
+          (sym ((place_eq-exact calling.place second).0 same) ∙ first_is)) in
           record {
             is_line = are.called line called;
             line_idle = idle-with_other (has_line line) paths calling other_line ∙ are.called_idle line called;
             is_place = place_at-range plan laws group i member second listed within;
-            place_idle = idle-with_other (has_place second) paths calling other_place ∙ each_passes (λ place. is_idle (has_place place) paths) (places member) second idle within;
+            place_idle =
+                idle-with_other (has_place second) paths calling other_place
+                ∙ each_passes (λ place. is_idle (has_place place) paths) (places member) second idle within;
             own = record { group = group; index = i; member = member; listed = listed; stands = has-stands_at member second within };
           }
 
-      takes : (called : Option Path) → CalledCanStand plan (with_path paths calling) member.second called → CanTake plan paths group i (record { calling = calling; called = called })
+      takes : (called : Option Path) → CalledCanStand plan (with_path paths calling) member.second called
+          → CanTake plan paths group i (record { calling = calling; called = called })
       takes called can = record { member = member; listed = listed; idle = idle; first = first_is; calling = stands; called = can }
 
-      good_called_path : (line : Line) → parties.called ≡ Some line → (second : TrunkPlace) → member.second ≡ Some second → (found : Option ℕ) → IsFirstIdleChannel (with_path paths calling) line second start found
+      good_called_path : (line : Line) → parties.called ≡ Some line → (second : TrunkPlace) → member.second ≡ Some second → (found : Option ℕ)
+          → IsFirstIdleChannel (with_path paths calling) line second start found
           → GoodFound i (option_map (λ called. record { calling = calling; called = Some called }) (option_map (path_by line second) found))
       good_called_path line called second paired None none = tt
       good_called_path line called second paired (Some channel) is =
@@ -159,24 +152,30 @@ module _ (plan : Tables) (paths : List Path) (group : ℕ) (parties : Parties) (
       good_called None called (Some second) paired =
           absurd (true≢false (sym (ap (λ (x : Option TrunkPlace). is_some x) paired) ∙ are.paired i member listed ∙ ap (λ (x : Option Line). is_some x) called))
       good_called (Some line) called None paired =
-          absurd (true≢false (sym (ap (λ (x : Option Line). is_some x) called) ∙ sym (are.paired i member listed) ∙ ap (λ (x : Option TrunkPlace). is_some x) paired))
+          absurd (true≢false (sym (ap (λ (x : Option Line). is_some x) called) ∙ sym (are.paired i member listed)
+          ∙ ap (λ (x : Option TrunkPlace). is_some x) paired))
       good_called (Some line) called (Some second) paired =
-          good_called_path line called second paired (channel_test (with_path paths calling) line second start) (channel_found (with_path paths calling) line second start)
+          good_called_path line called second paired (channel_test (with_path paths calling) line second start)
+          (channel_found (with_path paths calling) line second start)
 
     good_matched : (found : Option ℕ) → IsFirstIdleChannel paths parties.calling member.first start found
         → GoodFound i (option_and_then (with_called paths start (called_leg parties member)) (option_map (path_by parties.calling member.first) found))
     good_matched None none = tt
     good_matched (Some channel) is =
-        good_called (path_by parties.calling member.first channel) (joined plan paths parties.calling member.first start is.0 channel calling_joins is.2 is.3) refl refl
+        good_called (path_by parties.calling member.first channel) (joined plan paths parties.calling member.first start is.0 channel calling_joins is.2 is.3)
+        refl refl
         parties.called refl member.second refl
 
     good_trial : GoodEnd i (trial plan paths start parties member)
-    good_trial = good_end i (matched paths start parties member) (good_matched (channel_test paths parties.calling member.first start) (channel_found paths parties.calling member.first start))
+    good_trial =
+        good_end i (matched paths start parties member) (good_matched (channel_test paths parties.calling member.first start)
+        (channel_found paths parties.calling member.first start))
 
   abbrev pub members : List Member
   members = members_of plan group
 
-  good_at : (i start : ℕ) (o : Option Member) → slice_get members i ≡ o → option_map_or (is_member_idle paths) o false ≡ true → GoodEnd i (option_map_or (trial plan paths start parties) o NoChannel)
+  good_at : (i start : ℕ) (o : Option Member) → slice_get members i ≡ o → option_map_or (is_member_idle paths) o false ≡ true
+      → GoodEnd i (option_map_or (trial plan paths start parties) o NoChannel)
   good_at i start None here idle = tt
   good_at i start (Some member) here idle = good_trial i start member (at_group i member (slice_get plan.groups group) here) idle
 
@@ -185,7 +184,8 @@ module _ (plan : Tables) (paths : List Path) (group : ℕ) (parties : Parties) (
   good_second cards index (Faulty link) good = tt
   good_second cards index NoChannel good = tt
 
-  good_first : (index : ℕ) (end : TrialEnd) (next : ℕ) (other : TrialEnd) → GoodEnd index end → GoodEnd next other → GoodChoice plan paths group (first_decides index end next other).choice
+  good_first : (index : ℕ) (end : TrialEnd) (next : ℕ) (other : TrialEnd) → GoodEnd index end → GoodEnd next other
+      → GoodChoice plan paths group (first_decides index end next other).choice
   good_first index (Chosen call) next other good good_next = good
   good_first index (Faulty link) next other good good_next = good_second _ next other good_next
   good_first index NoChannel next other good good_next = good_second _ next other good_next

@@ -1,17 +1,11 @@
 use Rattle.std.proofs.Common.{◌≡◌, List, [], ◌∷◌, ◌++◌, inl, inr, refl, sym, ap, subst, ◌+◌, ◌*◌, drop, arith}
-use Rattle.xbar_equip.specs.Among.{IsIn}
-use Rattle.xbar_equip.specs.Path.{IsPath}
-use Rattle.xbar_equip.specs.Crosspoint.{crosspoints}
-use Rattle.xbar_equip.specs.Paths.{IsSet, AreApart}
-use Rattle.xbar_equip.specs.declared.path.Path.{Path}
-use Rattle.xbar_equip.specs.declared.crosspoint.Crosspoint.{Crosspoint}
-use Rattle.xbar_equip.proofs.Lists.{in_either}
-use Rattle.xbar_equip.proofs.Meeting.{meet}
-use Rattle.xbar_equip.proofs.PathSets.{before-apart}
+use Rattle.xbar_equip.specs.{Among.IsIn, Path.IsPath, Crosspoint.crosspoints, Paths.{IsSet, AreApart}, declared.path.Path.Path}
+use Rattle.xbar_equip.{specs.declared.crosspoint.Crosspoint.Crosspoint, proofs.{Lists.in_either, Meeting.meet, PathSets.before-apart}}
 use Rattle.xbar_office.specs.Closed.{closed, NamesFieldsOnce}
 
 -- two lists that name each field at most once, and no field in both
-once_append : (xs ys : List Crosspoint) → NamesFieldsOnce xs → NamesFieldsOnce ys → ((c d : Crosspoint) → IsIn c xs → IsIn d ys → c.word ≡ d.word → c.field ≡ d.field → ⊥) → NamesFieldsOnce (xs ++ ys)
+once_append : (xs ys : List Crosspoint) → NamesFieldsOnce xs → NamesFieldsOnce ys
+    → ((c d : Crosspoint) → IsIn c xs → IsIn d ys → c.word ≡ d.word → c.field ≡ d.field → ⊥) → NamesFieldsOnce (xs ++ ys)
 once_append [] ys once_x once_y across = once_y
 once_append (x ∷ xs) ys once_x once_y across = (
   λ d within. elim (in_either d xs ys within) [ inl front ↦ once_x.0 d front | inr back ↦ across x d (inl refl) back ],

@@ -1,23 +1,14 @@
 -- the set after a path is removed
-use Rattle.std.proofs.Common.{◌≡◌, ◌≢◌, ◌+◌, ◌⊎◌, Bool, true, false, List, [], ◌∷◌, length, inl, inr, refl, sym, ◌∙◌, ap, subst}
-use Rattle.std.specs.Prelude.{◌||◌, not}
-use Rattle.std.specs.List.{list_any}
-use Rattle.std.specs.Ordering.{match_ordering}
-use Rattle.std.specs.declared.cmp.Ordering.{Ordering}
-use Rattle.std.specs.declared.cmp.Ordering.TheVariants.{Less, Equal, Greater}
-use Rattle.xbar_equip.specs.Among.{IsIn}
-use Rattle.xbar_equip.specs.Path.{path_cmp}
-use Rattle.xbar_equip.specs.Paths.{IsSet, with_path, without_path, is_idle}
-use Rattle.xbar_equip.specs.declared.path.Path.{Path}
-use Rattle.xbar_equip.proofs.Lists.{any_passes}
-use Rattle.xbar_equip.proofs.PathOrder.{exact_path, never_before_itself, before_of_after}
-use Rattle.xbar_equip.proofs.PathSets.{with-in, in-with, without-in, in-without, set-with, set-without, same_set}
-use Rattle.xbar_equip.proofs.PathTests.{idle-none, none-idle}
-use Rattle.xbar_plan.specs.Tables.{Tables}
-use Rattle.xbar_office.specs.LawfulSet.{IsOrderlySet}
-use Rattle.xbar_office.proofs.AddedPaths.{length-with}
+use Rattle.std.proofs.Common.{◌≡◌, ◌≢◌, ◌+◌, ◌⊎◌, Bool, true, false, List, [], ◌∷◌, length, inl, inr, refl, sym, ◌∙◌, ap, subst, ◌||◌, not}
+use Rattle.std.specs.{List.list_any, Ordering.match_ordering, declared.cmp.Ordering.{Ordering, TheVariants.{Less, Equal, Greater}}}
+use Rattle.xbar_equip.specs.{Among.IsIn, Path.path_cmp, Paths.{IsSet, with_path, without_path, is_idle}, declared.path.Path.Path}
+use Rattle.xbar_equip.proofs.{Lists.any_passes, PathOrder.{exact_path, never_before_itself, before_of_after}}
+use Rattle.xbar_equip.proofs.{PathSets.{with-in, in-with, without-in, in-without, set-with, set-without, same_set}, PathTests.{idle-none, none-idle}}
+use Rattle.{xbar_plan.specs.Tables.Tables, xbar_office.{specs.LawfulSet.IsOrderlySet, proofs.AddedPaths.length-with}}
 
-any_without_at : (o : Ordering) (has : Path → Bool) (path p : Path) (paths : List Path) → path_cmp path p ≡ o → has path ≡ false → list_any has (without_path paths path) ≡ list_any has paths → list_any has (match_ordering o (p ∷ paths) paths (p ∷ without_path paths path)) ≡ list_any has (p ∷ paths)
+any_without_at : (o : Ordering) (has : Path → Bool) (path p : Path) (paths : List Path) → path_cmp path p ≡ o → has path ≡ false
+    → list_any has (without_path paths path) ≡ list_any has paths
+    → list_any has (match_ordering o (p ∷ paths) paths (p ∷ without_path paths path)) ≡ list_any has (p ∷ paths)
 any_without_at Less has path p paths e other later = refl
 any_without_at Equal has path p paths e other later = ap (λ b. b || list_any has paths) (sym other ∙ ap has (exact_path path p e))
 any_without_at Greater has path p paths e other later = ap (λ b. has p || b) later
@@ -35,7 +26,8 @@ pub idle-without : (has : Path → Bool) (paths : List Path) (path : Path) → I
 idle-without has paths path set idle = idle-none has (without_path paths path) (λ q within. none-idle has paths idle q (without-in paths path q set within).0)
 
 -- what only this path has is idle without it
-pub idle-without_own : (has : Path → Bool) (paths : List Path) (path : Path) → IsSet paths → ((q : Path) → IsIn q paths → has q ≡ true → q ≡ path) → is_idle has (without_path paths path) ≡ true
+pub idle-without_own : (has : Path → Bool) (paths : List Path) (path : Path) → IsSet paths → ((q : Path) → IsIn q paths → has q ≡ true → q ≡ path)
+    → is_idle has (without_path paths path) ≡ true
 idle-without_own has paths path set alone = idle-none has (without_path paths path) (λ q within. of q (has q) refl (without-in paths path q set within)) where
   of : (q : Path) (b : Bool) → has q ≡ b → IsIn q paths × (q ≢ path) → has q ≡ false
   of q false e within = e
@@ -47,20 +39,24 @@ busy-in has paths path within own = ap not (any_passes has paths path within own
 
 -- a path that is removed and added again leaves the set as it was
 pub with-without : (paths : List Path) (path : Path) → IsSet paths → IsIn path paths → with_path (without_path paths path) path ≡ paths
-with-without paths path set own = same_set (with_path (without_path paths path) path) paths (set-with (without_path paths path) path (set-without paths path set)) set (λ q. (back q, forth q)) where
-  back : (q : Path) → IsIn q (with_path (without_path paths path) path) → IsIn q paths
-  back q within = elim (with-in (without_path paths path) path q within) [
-    | inl same ↦ subst (λ (x : Path). IsIn x paths) (sym same) own
-    | inr there ↦ (without-in paths path q set there).0
-  ]
+with-without paths path set own =
+    same_set (with_path (without_path paths path) path) paths (set-with (without_path paths path) path (set-without paths path set)) set
+    (λ q. (back q, forth q)) where
+      back : (q : Path) → IsIn q (with_path (without_path paths path) path) → IsIn q paths
+      back q within = elim (with-in (without_path paths path) path q within) [
+        | inl same ↦ subst (λ (x : Path). IsIn x paths) (sym same) own
+        | inr there ↦ (without-in paths path q set there).0
+      ]
 
-  by_order : (q : Path) (o : Ordering) → path_cmp q path ≡ o → IsIn q paths → (q ≡ path) ⊎ IsIn q (without_path paths path)
-  by_order q Less e within = inr (in-without paths path q within (λ same. never_before_itself path (subst (λ (x : Path). path_cmp x path ≡ Less) same e)))
-  by_order q Equal e within = inl (exact_path q path e)
-  by_order q Greater e within = inr (in-without paths path q within (λ same. never_before_itself path (before_of_after path path (subst (λ (x : Path). path_cmp x path ≡ Greater) same e))))
+      by_order : (q : Path) (o : Ordering) → path_cmp q path ≡ o → IsIn q paths → (q ≡ path) ⊎ IsIn q (without_path paths path)
+      by_order q Less e within = inr (in-without paths path q within (λ same. never_before_itself path (subst (λ (x : Path). path_cmp x path ≡ Less) same e)))
+      by_order q Equal e within = inl (exact_path q path e)
+      by_order q Greater e within =
+          inr (in-without paths path q within (λ same. never_before_itself path
+          (before_of_after path path (subst (λ (x : Path). path_cmp x path ≡ Greater) same e))))
 
-  forth : (q : Path) → IsIn q paths → IsIn q (with_path (without_path paths path) path)
-  forth q within = in-with (without_path paths path) path q (by_order q (path_cmp q path) refl within)
+      forth : (q : Path) → IsIn q paths → IsIn q (with_path (without_path paths path) path)
+      forth q within = in-with (without_path paths path) path q (by_order q (path_cmp q path) refl within)
 
 -- removing a path of the set makes the set shorter by one
 pub length-without : (paths : List Path) (path : Path) → IsSet paths → IsIn path paths → length paths ≡ length (without_path paths path) + 1

@@ -1,16 +1,9 @@
 -- a path that can be added to an orderly set, which stays orderly
-use Rattle.std.proofs.Common.{◌≡◌, ◌+◌, ◌⊎◌, true, List, length, inl, inr, refl, sym, ◌∙◌, subst}
-use Rattle.std.specs.Prelude.{◌&&◌}
-use Rattle.xbar_equip.specs.Among.{IsIn}
-use Rattle.xbar_equip.specs.Path.{IsPath, SharesPart, line_link, junctor, trunk_link}
-use Rattle.xbar_equip.specs.Paths.{has_line, has_place, has_link, is_idle, has_idle_links, with_path}
-use Rattle.xbar_equip.specs.declared.path.Path.{Path}
-use Rattle.xbar_equip.proofs.Logic.{both}
-use Rattle.xbar_equip.proofs.PathSets.{with-in, set-with}
-use Rattle.xbar_equip.proofs.PathTests.{line_eq-exact, place_eq-exact, has_link-exact}
-use Rattle.xbar_plan.specs.Tables.{Tables}
-use Rattle.xbar_office.specs.LawfulSet.{IsMembersPlace, IsOrderlySet}
-use Rattle.xbar_office.proofs.AddedPaths.{not_of_set, length-with}
+use Rattle.std.proofs.Common.{◌≡◌, ◌+◌, ◌⊎◌, true, List, length, inl, inr, refl, sym, ◌∙◌, subst, ◌&&◌}
+use Rattle.xbar_equip.specs.{Among.IsIn, Path.{IsPath, SharesPart, line_link, junctor, trunk_link}}
+use Rattle.xbar_equip.specs.{Paths.{has_line, has_place, has_link, is_idle, has_idle_links, with_path}, declared.path.Path.Path}
+use Rattle.xbar_equip.proofs.{Logic.both, PathSets.{with-in, set-with}, PathTests.{line_eq-exact, place_eq-exact, has_link-exact}}
+use Rattle.{xbar_plan.specs.Tables.Tables, xbar_office.{specs.LawfulSet.{IsMembersPlace, IsOrderlySet}, proofs.AddedPaths.{not_of_set, length-with}}}
 
 -- a path whose parts are all idle, and whose place is a member's
 pub record CanStand (plan : Tables) (paths : List Path) (path : Path) : Type 0 where
@@ -33,15 +26,18 @@ module _ (plan : Tables) (paths : List Path) (path : Path) (can : CanStand plan 
   clash q within (inl e) = not_of_set (has_line path.line) paths q can.line ((line_eq-exact q.line path.line).1 (sym e)) within
   clash q within (inr (inl e)) = not_of_set (has_place path.place) paths q can.place ((place_eq-exact q.place path.place).1 (sym e)) within
   clash q within (inr (inr (inl e))) =
-      let links = both (is_idle (has_link (line_link path)) paths && is_idle (has_link (junctor path)) paths) (is_idle (has_link (trunk_link path)) paths) can.links in
+      let links =
+      both (is_idle (has_link (line_link path)) paths && is_idle (has_link (junctor path)) paths) (is_idle (has_link (trunk_link path)) paths) can.links in
       let first = both (is_idle (has_link (line_link path)) paths) (is_idle (has_link (junctor path)) paths) links.0 in
       not_of_set (has_link (line_link path)) paths q first.0 ((has_link-exact (line_link path) q).1 (inl (sym e))) within
   clash q within (inr (inr (inr (inl e)))) =
-      let links = both (is_idle (has_link (line_link path)) paths && is_idle (has_link (junctor path)) paths) (is_idle (has_link (trunk_link path)) paths) can.links in
+      let links =
+      both (is_idle (has_link (line_link path)) paths && is_idle (has_link (junctor path)) paths) (is_idle (has_link (trunk_link path)) paths) can.links in
       let first = both (is_idle (has_link (line_link path)) paths) (is_idle (has_link (junctor path)) paths) links.0 in
       not_of_set (has_link (junctor path)) paths q first.1 ((has_link-exact (junctor path) q).1 (inr (inl (sym e)))) within
   clash q within (inr (inr (inr (inr e)))) =
-      let links = both (is_idle (has_link (line_link path)) paths && is_idle (has_link (junctor path)) paths) (is_idle (has_link (trunk_link path)) paths) can.links in
+      let links =
+      both (is_idle (has_link (line_link path)) paths && is_idle (has_link (junctor path)) paths) (is_idle (has_link (trunk_link path)) paths) can.links in
       not_of_set (has_link (trunk_link path)) paths q links.1 ((has_link-exact (trunk_link path) q).1 (inr (inr (sym e)))) within
 
   apart_with : IsOrderlySet plan paths → (p q : Path) → (p ≡ path) ⊎ IsIn p paths → (q ≡ path) ⊎ IsIn q paths → SharesPart p q → p ≡ q
@@ -56,7 +52,11 @@ module _ (plan : Tables) (paths : List Path) (path : Path) (can : CanStand plan 
   orderly-with orderly = record {
     set = set-with paths path orderly.set;
     ranges = λ q within. elim (with-in paths path q within) [ inl e ↦ subst (λ (x : Path). IsPath x) (sym e) can.range | inr there ↦ orderly.ranges q there ];
-    places = λ q within. elim (with-in paths path q within) [ inl e ↦ subst (λ (x : Path). IsMembersPlace plan x.place) (sym e) can.own | inr there ↦ orderly.places q there ];
+    places =
+        λ q within. elim (with-in paths path q within) [
+          | inl e ↦ subst (λ (x : Path). IsMembersPlace plan x.place) (sym e) can.own
+          | inr there ↦ orderly.places q there
+        ];
     apart = λ p q in_p in_q. apart_with orderly p q (with-in paths path p in_p) (with-in paths path q in_q);
   }
 

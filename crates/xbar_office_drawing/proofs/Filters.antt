@@ -1,6 +1,5 @@
 -- What a test leaves of lists that are made of parts.
-use Rattle.std.proofs.Common.{◌≡◌, Bool, List, [], ◌∷◌, ◌++◌, refl, ap, ◌∙◌}
-use Rattle.std.specs.Prelude.{filter, flat_map, map}
+use Rattle.std.proofs.Common.{◌≡◌, Bool, List, [], ◌∷◌, ◌++◌, refl, ap, ◌∙◌, filter, flat_map, map}
 use Rattle.std.proofs.lemmas.List.Elements.{filter-append}
 
 module _ {X : Type 0} (p : X → Bool) where

@@ -1,29 +1,20 @@
 -- The figures that show crosspoints and cards, in each part of a drawing.
-use Rattle.std.proofs.Common.{◌≡◌, ℕ, ◌+◌, List, [], ◌∷◌, ◌++◌, Bool, true, false, cond, refl, ap, ◌∙◌, append-nil}
-use Rattle.std.specs.Prelude.{Option, Some, None, filter, flat_map, length, map, nat_lt}
-use Rattle.std.specs.List.{range_with_len}
-use Rattle.svg.specs.Figure.{Figure}
-use Rattle.xbar_equip.specs.Link.{Link}
-use Rattle.xbar_equip.specs.declared.link.LinkKind.{LinkKind}
-use Rattle.xbar_equip.specs.declared.link.LinkKind.TheVariants.{LineLink, Junctor, TrunkLink}
-use Rattle.xbar_equip.specs.declared.path.Path.{Path}
-use Rattle.xbar_plan.specs.Tables.{Tables}
-use Rattle.xbar_office_drawing.specs.declared.owned_card.OwnedCard.{OwnedCard}
-use Rattle.xbar_office_drawing.specs.CardFace.{card_face, card_owner, card_title, card_words, digit_hole, link_holes, number_entry}
-use Rattle.xbar_office_drawing.specs.Drawing.{office_with, path_alone, title}
-use Rattle.xbar_office_drawing.specs.Drawn.{is_evidence, path_evidence}
-use Rattle.xbar_office_drawing.specs.Index.{entry}
-use Rattle.xbar_office_drawing.specs.Names.{first_number, line_name, named_line, names, names_after, names_from, trunk_name}
-use Rattle.xbar_office_drawing.specs.Office.{bundle, bundles_of, fault, fault_in, key, line_heads, name_above, office, sample, trunk_heads, two_frames}
-use Rattle.xbar_office_drawing.specs.PathInOffice.{path_dots, path_trails, way}
-use Rattle.xbar_office_drawing.specs.Shapes.{blank_card, card_edge, digit_head, digit_place, digit_places, inner_link, inner_links, kind_place, line_frame, line_row, links_from, mesh, shape_figures, switch_box, trunk_frame, trunk_row}
-use Rattle.xbar_office_drawing.specs.Switches.{closed_trail, path_card, path_title, switch_face, switches_of}
+use Rattle.std.proofs.Common.{◌≡◌, ℕ, List, [], ◌∷◌, ◌++◌, codes, Bool, true, false, cond, refl, ◌∙◌, append-nil, Option, Some, None, filter, flat_map}
+use Rattle.std.proofs.Common.{length, map, nat_lt}
+use Rattle.{std.specs.List.range_with_len, svg.specs.{Figure.{Figure, figures_of}, declared.shape.ShapeOf.TheVariants.Text}}
+use Rattle.xbar_equip.specs.{Link.Link, declared.link.LinkKind.LinkKind}
+use Rattle.{xbar_equip.specs.declared.{link.LinkKind.TheVariants.{LineLink, Junctor, TrunkLink}, path.Path.Path}, xbar_plan.specs.Tables.Tables}
+use Rattle.xbar_office_drawing.specs.{declared.owned_card.OwnedCard.OwnedCard, CardFace.{card_face, card_words}, Drawing.{count_text, office_with, path_alone}}
+use Rattle.xbar_office_drawing.specs.{Drawn.{is_evidence, path_evidence}, Index.entry, Names.{first_number, line_name, named_line, names}}
+use Rattle.xbar_office_drawing.specs.{Names.{names_after, names_from, trunk_name}, Office.{bundle, fault, fault_in, office, two_frames}}
+use Rattle.xbar_office_drawing.specs.{PathInOffice.{path_dots, path_trails}, Shapes.{blank_card, frame_figures, frame_row, inner_link, shape_figures}}
+use Rattle.xbar_office_drawing.specs.{Switches.{path_card, path_title, switch_face, switches_of}, declared.office.TheConstants.{HEADS, KEY}}
 use Rattle.xbar_office_drawing.proofs.Filters.{none_flat, none_in_both, none_map, none_then, told_flat, told_then}
 
 -- ---- the shapes, the office and the names have none of them
 
 pub no_shapes : filter is_evidence shape_figures ≡ []
-unfolding line_frame trunk_frame inner_links links_from inner_link switch_box line_row trunk_row mesh blank_card card_edge kind_place digit_head digit_places digit_place
+unfolding frame_figures blank_card inner_link frame_row
 no_shapes = refl
 
 no_fault_in : (kind : LinkKind) (link : Link) → filter is_evidence (fault_in kind link ∷ []) ≡ []
@@ -31,14 +22,15 @@ no_fault_in LineLink link = refl
 no_fault_in Junctor link = refl
 no_fault_in TrunkLink link = refl
 
-no_frames : filter is_evidence (key ++ line_heads ++ trunk_heads ++ flat_map bundles_of (range_with_len 0 10) ++ flat_map two_frames (range_with_len 0 10)) ≡ []
-unfolding key line_heads trunk_heads name_above sample bundles_of bundle two_frames
+abbrev frames : List Figure
+frames = figures_of KEY ++ figures_of HEADS ++ map bundle (range_with_len 0 100) ++ flat_map two_frames (range_with_len 0 10)
+
+no_frames : filter is_evidence frames ≡ []
 no_frames = refl
 
 pub no_office : (plan : Tables) → filter is_evidence (office plan) ≡ []
 unfolding office
 no_office plan =
-    let frames = key ++ line_heads ++ trunk_heads ++ flat_map bundles_of (range_with_len 0 10) ++ flat_map two_frames (range_with_len 0 10) in
     none_in_both is_evidence frames (map fault plan.faults) no_frames (none_map is_evidence fault plan.faults (λ link. no_fault_in link.kind link))
 
 no_line_by : (column : ℕ) (path : Path) (number : Option ℕ) (small : Bool) → filter is_evidence (cond small (named_line column path number ∷ []) []) ≡ []
@@ -65,7 +57,8 @@ no_names_after plan earlier path = none_in_both is_evidence (line_name plan _ pa
 pub no_names : (plan : Tables) (earlier paths : List Path) → filter is_evidence (names_from plan earlier paths) ≡ []
 no_names plan earlier [] = refl
 no_names plan earlier (path ∷ more) =
-    none_in_both is_evidence (names_after plan earlier path) (names_from plan (earlier ++ path ∷ []) more) (no_names_after plan earlier path) (no_names plan (earlier ++ path ∷ []) more)
+    none_in_both is_evidence (names_after plan earlier path) (names_from plan (earlier ++ path ∷ []) more) (no_names_after plan earlier path)
+    (no_names plan (earlier ++ path ∷ []) more)
 
 -- ---- paths and cards
 
@@ -77,15 +70,15 @@ all_dots : (plan : Tables) (path : Path) → filter is_evidence (path_dots plan 
 all_dots plan path = refl
 
 pub no_entry : (plan : Tables) (path : Path) → filter is_evidence (entry plan path) ≡ []
-unfolding entry sample
+unfolding entry
 no_entry plan path = refl
 
 pub card_told : (owned : OwnedCard) → filter is_evidence (card_face owned) ≡ card_words owned ∷ []
-unfolding card_face card_title card_owner number_entry link_holes digit_hole
+unfolding card_face
 card_told owned = refl
 
 pub switches_told : (plan : Tables) (path : Path) → filter is_evidence (path_card plan path) ≡ path_evidence path
-unfolding path_card path_title switches_of switch_face closed_trail
+unfolding path_card path_title switches_of switch_face
 switches_told plan path = refl
 
 pub path_told : (plan : Tables) (path : Path) → filter is_evidence (path_alone plan path) ≡ path_dots plan path
@@ -101,10 +94,11 @@ path_told plan path =
 pub office_told : (plan : Tables) (paths : List Path) → filter is_evidence (office_with plan paths) ≡ flat_map (path_dots plan) paths
 unfolding office_with
 office_told plan paths =
-    let base = title (length paths) ∷ office plan in
+    let base = Text (16, 30) (codes "big") (count_text (length paths)) ∷ office plan in
     let trails = flat_map (path_trails plan) paths in
     let dots = flat_map (path_dots plan) paths in
-    let first : filter is_evidence (base ++ trails) ≡ [] = none_in_both is_evidence base trails (no_office plan) (none_flat is_evidence (path_trails plan) paths (no_trails plan)) in
+    let first : filter is_evidence (base ++ trails) ≡ [] =
+    none_in_both is_evidence base trails (no_office plan) (none_flat is_evidence (path_trails plan) paths (no_trails plan)) in
     let second : filter is_evidence (base ++ trails ++ dots) ≡ dots =
     none_then is_evidence (base ++ trails) dots first ∙ told_flat is_evidence (path_dots plan) (path_dots plan) paths (all_dots plan) in
     told_then is_evidence (base ++ trails ++ dots) (names plan paths) dots [] second (no_names plan [] paths) ∙ append-nil dots

@@ -3,14 +3,16 @@ use Rattle.std.specs.Prelude.{ℕ, ◌+◌, ◌*◌, ◌-◌, ◌/◌, List, [],
 use Rattle.std.specs.List.{concat}
 use Rattle.svg.specs.Drawing.{foot_text, head_text}
 use Rattle.svg.specs.Figure.{Figure}
+use Rattle.svg.specs.declared.shape.ShapeOf.TheVariants.{Text}
 use Rattle.xbar_equip.specs.declared.path.Path.{Path}
 use Rattle.xbar_office.specs.declared.reply.Card.{Card}
 use Rattle.xbar_office.specs.declared.reply.Record.{Record}
 use Rattle.xbar_plan.specs.Tables.{Tables}
 use Rattle.xbar_office_drawing.specs.declared.drawing.TheConstants.{STYLE}
+use Rattle.xbar_office_drawing.specs.declared.placing.TheConstants.{CARDS, INDEX, PATH_CARDS}
 use Rattle.xbar_office_drawing.specs.declared.owned_card.OwnedCard.{OwnedCard}
 use Rattle.xbar_office_drawing.specs.CardFace.{card_face}
-use Rattle.xbar_office_drawing.specs.Figures.{Part, in_rows_of, laid_out, part_text, point, words}
+use Rattle.xbar_office_drawing.specs.Figures.{Part, laid_out, part_text}
 use Rattle.xbar_office_drawing.specs.Index.{entry}
 use Rattle.xbar_office_drawing.specs.Names.{line_name, names, trunk_name}
 use Rattle.xbar_office_drawing.specs.Office.{office}
@@ -41,14 +43,10 @@ count_text count =
     concat (codes "paths: " ∷ decimal count ∷ codes ", crosspoints closed: " ∷ decimal (4 * count)
     ∷ [])
 
--- the title of the picture
-abbrev pub title : ℕ → Figure
-title count = words (point 16 30) (codes "big") (count_text count)
-
--- the office with its paths: their trails, over them their dots, and their names
+-- the office with its paths: their number, their trails, over them their dots, and their names
 unfoldable pub office_with : Tables → List Path → List Figure
 office_with plan paths =
-    title (length paths) ∷ office plan ++ flat_map (path_trails plan) paths
+    Text (16, 30) (codes "big") (count_text (length paths)) ∷ office plan ++ flat_map (path_trails plan) paths
     ++ flat_map (path_dots plan) paths ++ names plan paths
 
 -- a path alone, with its names in the first columns
@@ -64,36 +62,24 @@ row_count count pictures = (pictures + count - 1) / count
 
 -- the upper edge of the first card of a path, below the index of so many paths
 abbrev pub paths_top : ℕ → ℕ
-paths_top paths = 940 + 24 * row_count 4 paths
+paths_top paths = 940 + INDEX.height * row_count INDEX.count paths
 
 -- the upper edge of the first trouble card
 abbrev pub cards_top : ℕ → ℕ
-cards_top paths = paths_top paths + 184 * row_count 3 paths
+cards_top paths = paths_top paths + PATH_CARDS.height * row_count PATH_CARDS.count paths
 
 -- the height of a drawing with so many paths and cards
 abbrev pub drawing_height : ℕ → ℕ → ℕ
-drawing_height paths cards = cards_top paths + 250 * row_count 3 cards
-
--- the place of an entry of the index
-abbrev pub index_place : ℕ → List Figure → Part
-index_place = in_rows_of 4 390 24 920
-
--- the place of a path's card, the first of which has this upper edge
-abbrev pub path_card_place : ℕ → ℕ → List Figure → Part
-path_card_place top = in_rows_of 3 520 184 top
-
--- the place of a trouble card
-abbrev pub card_place : ℕ → ℕ → List Figure → Part
-card_place top = in_rows_of 3 520 250 top
+drawing_height paths cards = cards_top paths + CARDS.height * row_count CARDS.count cards
 
 -- the parts of a drawing: the office, the index of the paths, a card for each path, and the trouble
 -- cards
 unfoldable pub drawing_parts : Tables → List Path → List OwnedCard → List Part
 drawing_parts plan paths cards =
     record { across = 0; down = 0; figures = office_with plan paths }
-    ∷ laid_out index_place 0 (map (entry plan) paths)
-    ++ laid_out (path_card_place (paths_top (length paths))) 0 (map (path_card plan) paths)
-    ++ laid_out (card_place (cards_top (length paths))) 0 (map card_face cards)
+    ∷ laid_out INDEX 920 0 (map (entry plan) paths)
+    ++ laid_out PATH_CARDS (paths_top (length paths)) 0 (map (path_card plan) paths)
+    ++ laid_out CARDS (cards_top (length paths)) 0 (map card_face cards)
 
 -- ---- the drawing
 

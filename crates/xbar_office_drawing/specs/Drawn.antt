@@ -1,10 +1,12 @@
 -- The figures of a drawing that show closed crosspoints and cards, among all its figures.
 use Rattle.std.specs.Prelude.{ℕ, ◌||◌, Bool, true, false, List, [], ◌∷◌, ◌++◌, codes, flat_map}
 use Rattle.std.specs.Str.{bytes_eq}
-use Rattle.svg.specs.Figure.{Figure, Rectangle, Line, Circle, Trail, Words, Copy}
+use Rattle.svg.specs.Figure.{Figure}
+use Rattle.svg.specs.declared.shape.ShapeOf.TheVariants.{Circle, Copy, Line, Rectangle, Text, Trail}
 use Rattle.xbar_equip.specs.Crosspoint.{crosspoints}
 use Rattle.xbar_equip.specs.declared.crosspoint.Crosspoint.{Crosspoint}
 use Rattle.xbar_equip.specs.declared.path.Path.{Path}
+use Rattle.xbar_office_drawing.specs.declared.switches.TheConstants.{LINE_JUNCTOR, LINE_SWITCH, TRUNK_JUNCTOR, TRUNK_SWITCH}
 use Rattle.xbar_office_drawing.specs.Figures.{Part}
 use Rattle.xbar_office_drawing.specs.Switches.{crossing, field_words, word_words}
 
@@ -18,7 +20,7 @@ is_evidence (Rectangle corner width height class) = false
 is_evidence (Line from to class) = false
 is_evidence (Circle center radius class) = true
 is_evidence (Trail from bends class) = false
-is_evidence (Words at class content) =
+is_evidence (Text at class content) =
     bytes_eq class (codes "field") || bytes_eq class (codes "told")
 is_evidence (Copy at name) = false
 
@@ -31,8 +33,8 @@ crosspoint_evidence left crosspoint =
 -- the figures of the four crosspoints of a path, each in its switch
 abbrev pub all_crosspoint_evidence : List Crosspoint → List Figure
 all_crosspoint_evidence (first ∷ second ∷ third ∷ fourth ∷ []) =
-    crosspoint_evidence 5 first ++ crosspoint_evidence 190 second ++ crosspoint_evidence 290 third
-    ++ crosspoint_evidence 390 fourth
+    crosspoint_evidence LINE_SWITCH.left first ++ crosspoint_evidence LINE_JUNCTOR.left second
+    ++ crosspoint_evidence TRUNK_JUNCTOR.left third ++ crosspoint_evidence TRUNK_SWITCH.left fourth
 all_crosspoint_evidence _ = []
 
 -- the figures that show the closed crosspoints of a path on its card

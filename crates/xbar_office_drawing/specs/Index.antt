@@ -2,14 +2,13 @@
 use Rattle.std.specs.Prelude.{ℕ, Option, Some, None, List, [], ◌∷◌, ◌++◌, codes}
 use Rattle.std.specs.List.{concat}
 use Rattle.svg.specs.Figure.{Figure}
+use Rattle.svg.specs.declared.shape.ShapeOf.TheVariants.{Line, Text}
 use Rattle.xbar_equip.specs.DirNo.{dir_no_text}
 use Rattle.xbar_equip.specs.Path.{path_text}
 use Rattle.xbar_equip.specs.declared.path.Path.{Path}
 use Rattle.xbar_office_text.specs.Ends.{member_text}
 use Rattle.xbar_plan.specs.Tables.{Tables}
-use Rattle.xbar_office_drawing.specs.Figures.{point, words}
 use Rattle.xbar_office_drawing.specs.Names.{first_number}
-use Rattle.xbar_office_drawing.specs.Office.{sample}
 use Rattle.xbar_office_drawing.specs.PathInOffice.{use_class}
 
 -- the number of a line, if it has one, before what its path leads to
@@ -22,9 +21,10 @@ unfoldable pub joined_text : Tables → Path → List ℕ
 joined_text plan path =
     concat (number_before (first_number plan path.line) ∷ codes "to " ∷ member_text plan path ∷ [])
 
--- an entry of the index: how the path is drawn, its text, and what it joins
+-- an entry of the index: how the path is drawn, its core on its edge, its text, and what it joins
 unfoldable pub entry : Tables → Path → List Figure
 entry plan path =
-    sample 0 30 15 (use_class plan path)
-    ++ words (point 40 20) (codes "plain") (path_text path)
-    ∷ words (point 134 20) (codes "plain") (joined_text plan path) ∷ []
+    Line (0, 15) (30, 15) (use_class plan path ++ codes " edge")
+    ∷ Line (0, 15) (30, 15) (use_class plan path)
+    ∷ Text (40, 20) (codes "plain") (path_text path)
+    ∷ Text (134, 20) (codes "plain") (joined_text plan path) ∷ []

@@ -2,12 +2,12 @@
 use Rattle.std.specs.Prelude.{ℕ, ◌+◌, ◌*◌, ◌-◌, ◌/◌, ◌==◌, ◌&&◌, Bool, Option, Some, None, List, [], ◌∷◌, ◌++◌, codes, filter, find, if◌then◌else◌, length, nat_lt, option_map}
 use Rattle.std.specs.List.{list_any}
 use Rattle.svg.specs.Figure.{Figure}
+use Rattle.svg.specs.declared.shape.ShapeOf.TheVariants.{Text}
 use Rattle.xbar_equip.specs.DirNo.{dir_no_text}
 use Rattle.xbar_equip.specs.Len.{Line, line_eq, line_text}
 use Rattle.xbar_equip.specs.declared.path.Path.{Path}
 use Rattle.xbar_office_text.specs.Ends.{member_text}
 use Rattle.xbar_plan.specs.Tables.{Station, Tables}
-use Rattle.xbar_office_drawing.specs.Figures.{point, words}
 use Rattle.xbar_office_drawing.specs.Office.{frame_top}
 
 -- the baseline of the names in the row beside a switch
@@ -26,10 +26,10 @@ first_number plan line = option_map (λ s. s.number) (find (is_number_of line) p
 -- number
 abbrev pub named_line : ℕ → Path → Option ℕ → Figure
 named_line column path None =
-    words (point (204 - 40 * column) (name_level path.line.frame path.line.switch))
+    Text (204 - 40 * column, name_level path.line.frame path.line.switch)
     (codes "line unlisted") (line_text path.line)
 named_line column path (Some number) =
-    words (point (204 - 40 * column) (name_level path.line.frame path.line.switch))
+    Text (204 - 40 * column, name_level path.line.frame path.line.switch)
     (codes "line") (dir_no_text number)
 
 -- the name of a path's line in a column of four; none beyond them
@@ -41,7 +41,7 @@ line_name plan column path =
 unfoldable pub trunk_name : Tables → ℕ → Path → List Figure
 trunk_name plan column path =
     if nat_lt column 3 then
-    (words (point (1260 + 102 * column) (name_level path.place.frame path.place.switch))
+    (Text (1260 + 102 * column, name_level path.place.frame path.place.switch)
     (codes "trunk") (member_text plan path) ∷ []) else []
 
 -- whether the names of two lines are in one row

@@ -1,12 +1,12 @@
 //! The whole drawing.
 
 ghost use Rattle.std.specs.Prelude.{◌≡◌, ◌++◌, ◌≤◌, IfOk, OnOk, flat_map, map, string_bytes};
-ghost use Rattle.svg.specs.Figure.{figure_text};
 ghost use Rattle.xbar_office_drawing.specs.CardFace.{card_face};
-ghost use Rattle.xbar_office_drawing.specs.Drawing.{card_place, count_text, drawing_of, drawing_parts, index_place, office_drawing as the_drawing, office_with, path_alone, path_card_place, sheet_text, style as the_style, title};
+ghost use Rattle.xbar_office_drawing.specs.Drawing.{count_text, drawing_of, drawing_parts, office_drawing as the_drawing, office_with, path_alone, style as the_style};
 ghost use Rattle.xbar_office_drawing.specs.Figures.{figures_text, laid_out, part_text};
 ghost use Rattle.xbar_office_drawing.specs.Index.{entry};
-ghost use Rattle.xbar_office_drawing.specs.PathInOffice.{path_dots, path_trails};
+ghost use Rattle.xbar_office_drawing.specs.PathInOffice.{path_dots as path_dots_of, path_trails};
+ghost use Rattle.xbar_office_drawing.specs.declared.placing.TheConstants.{CARDS as THE_CARDS, INDEX as THE_INDEX, PATH_CARDS as THE_PATH_CARDS};
 ghost use Rattle.xbar_office_drawing.specs.Switches.{path_card};
 
 use crate::card_face::add_card;
@@ -14,12 +14,12 @@ use crate::index::add_entry;
 use crate::names::{add_line_name, add_names, add_trunk_name};
 use crate::office::add_office;
 use crate::owned_card::{OwnedCard, all_cards};
-use crate::path_in_office::{add_dots, add_trails};
-use crate::placing::{Rows, add_place, cards_top, drawing_height, paths_top};
+use crate::path_in_office::{add_trails, path_dots};
+use crate::placing::{CARDS, INDEX, PATH_CARDS, add_place, cards_top, drawing_height, paths_top};
 use crate::shapes::add_shapes;
 use crate::switches::add_path_card;
 use std::alloc::{AllocError, Global};
-use svg::{Point, add_foot, add_group, add_group_end, add_head, add_words};
+use svg::{Point, Shape, add_foot, add_group, add_group_end, add_head, add_shape};
 use xbar_equip::Path;
 use xbar_office::Record;
 use xbar_plan::Plan;
@@ -75,7 +75,7 @@ fn add_drawing(
     let height = drawing_height(paths.len(), cards.len());
     add_head(text, 1600, height, STYLE)?;
     text.push_str("<rect width=\"100%\" height=\"100%\" class=\"sheet\"/>\n")?;
-    add_shapes(alloc, text)?;
+    add_shapes(text)?;
     add_parts(alloc, text, plan, paths, cards)?;
     add_foot(text)?;
     Ok(())
@@ -100,15 +100,6 @@ pub fn add_count(text: &mut String, count: usize) -> Result<(), AllocError>
     Ok(())
 }
 
-fn add_title(alloc: Global, text: &mut String, count: usize) -> Result<(), AllocError>
-    ensures { OnOk result (string_bytes text.new ≡ string_bytes text.old ++
-        figure_text (title count)) }
-{
-    let mut told = String::new(alloc);
-    add_count(&mut told, count)?;
-    add_words(text, Point::new(16, 30), "big", told.as_str())
-}
-
 /// Adds the office with its paths: their trails, over them their dots, and their names.
 #[tactic(auto, unfolding(crate::specs::Drawing::office_with))]
 fn add_office_with(
@@ -120,34 +111,31 @@ fn add_office_with(
     ensures { OnOk result (string_bytes text.new ≡ string_bytes text.old ++
         figures_text (office_with plan.now paths.now)) }
 {
-    add_title(alloc, text, paths.len())?;
+    let mut told = String::new(alloc);
+    add_count(&mut told, paths.len())?;
+    add_shape(text, &Shape::Text(Point(16, 30), "big", told.as_str()))?;
     add_office(alloc, text, plan)?;
-    add_all_trails(alloc, text, plan, paths)?;
+    add_all_trails(text, plan, paths)?;
     add_all_dots(text, plan, paths)?;
     add_names(alloc, text, plan, paths)
 }
 
-fn add_all_trails(
-    alloc: Global,
-    text: &mut String,
-    plan: &Plan,
-    paths: &[Path],
-) -> Result<(), AllocError>
+fn add_all_trails(text: &mut String, plan: &Plan, paths: &[Path]) -> Result<(), AllocError>
     ensures { OnOk result (string_bytes text.new ≡ string_bytes text.old ++
         figures_text (flat_map (path_trails plan.now) paths.now)) }
 {
     for path in paths {
-        add_trails(alloc, text, plan, path)?;
+        add_trails(text, plan, path)?;
     }
     Ok(())
 }
 
 fn add_all_dots(text: &mut String, plan: &Plan, paths: &[Path]) -> Result<(), AllocError>
     ensures { OnOk result (string_bytes text.new ≡ string_bytes text.old ++
-        figures_text (flat_map (path_dots plan.now) paths.now)) }
+        figures_text (flat_map (path_dots_of plan.now) paths.now)) }
 {
     for path in paths {
-        add_dots(text, plan, path)?;
+        svg::add_shapes(text, &path_dots(plan, path))?;
     }
     Ok(())
 }
@@ -163,8 +151,8 @@ pub fn add_path_alone(
     ensures { OnOk result (string_bytes text.new ≡ string_bytes text.old ++
         figures_text (path_alone plan.now path.now)) }
 {
-    add_trails(alloc, text, plan, path)?;
-    add_dots(text, plan, path)?;
+    add_trails(text, plan, path)?;
+    svg::add_shapes(text, &path_dots(plan, path))?;
     add_line_name(alloc, text, plan, 0, path)?;
     add_trunk_name(alloc, text, plan, 0, path)
 }
@@ -173,7 +161,7 @@ pub fn add_path_alone(
 
 /// Adds the parts of a drawing: the office, the index of the paths, the card of each path, and the
 /// trouble cards.
-#[tactic(auto, unfolding(crate::specs::Drawing::drawing_parts))]
+#[tactic(auto, unfolding(crate::specs::Drawing::drawing_parts, crate::specs::Figures::part_text))]
 fn add_parts(
     alloc: Global,
     text: &mut String,
@@ -186,26 +174,12 @@ fn add_parts(
 {
     let first_top = paths_top(paths.len());
     let second_top = cards_top(paths.len());
-    add_office_part(alloc, text, plan, paths)?;
-    add_index(alloc, text, plan, paths)?;
-    add_path_cards(alloc, text, plan, first_top, paths)?;
-    add_trouble_cards(alloc, text, second_top, cards)?;
-    Ok(())
-}
-
-#[tactic(auto, unfolding(crate::specs::Figures::part_text))]
-fn add_office_part(
-    alloc: Global,
-    text: &mut String,
-    plan: &Plan,
-    paths: &[Path],
-) -> Result<(), AllocError>
-    ensures { OnOk result (string_bytes text.new ≡ string_bytes text.old ++
-        part_text (record { across = 0; down = 0; figures = office_with plan.now paths.now })) }
-{
     add_group(text, 0, 0)?;
     add_office_with(alloc, text, plan, paths)?;
-    add_group_end(text)
+    add_group_end(text)?;
+    add_index(alloc, text, plan, paths)?;
+    add_path_cards(alloc, text, plan, first_top, paths)?;
+    add_trouble_cards(alloc, text, second_top, cards)
 }
 
 fn add_index(
@@ -215,34 +189,14 @@ fn add_index(
     paths: &[Path],
 ) -> Result<(), AllocError>
     ensures { OnOk result (string_bytes text.new ≡ string_bytes text.old ++
-        flat_map part_text (laid_out index_place 0 (map (entry plan.now) paths.now))) }
+        flat_map part_text (laid_out THE_INDEX 920 0 (map (entry plan.now) paths.now))) }
 {
     for (k, path) in paths.iter().enumerate() {
-        add_entry_part(alloc, text, plan, k, path)?;
+        add_place(text, INDEX, 920, k)?;
+        add_entry(alloc, text, plan, path)?;
+        add_group_end(text)?;
     }
     Ok(())
-}
-
-#[tactic(auto, unfolding(crate::specs::Figures::part_text))]
-fn add_entry_part(
-    alloc: Global,
-    text: &mut String,
-    plan: &Plan,
-    k: usize,
-    path: &Path,
-) -> Result<(), AllocError>
-    ensures { OnOk result (string_bytes text.new ≡ string_bytes text.old ++
-        part_text (index_place k (entry plan.now path.now))) }
-{
-    let rows = Rows {
-        count: 4,
-        width: 390,
-        height: 24,
-        top: 920,
-    };
-    add_place(text, rows, k)?;
-    add_entry(alloc, text, plan, path)?;
-    add_group_end(text)
 }
 
 fn add_path_cards(
@@ -253,38 +207,15 @@ fn add_path_cards(
     paths: &[Path],
 ) -> Result<(), AllocError>
     requires { top ≤ 20000000000000000000000 }
-    ensures { OnOk result (string_bytes text.new ≡ string_bytes text.old ++
-        flat_map part_text
-        (laid_out (path_card_place top) 0 (map (path_card plan.now) paths.now))) }
+    ensures { OnOk result (string_bytes text.new ≡ string_bytes text.old ++ flat_map part_text
+        (laid_out THE_PATH_CARDS top 0 (map (path_card plan.now) paths.now))) }
 {
     for (k, path) in paths.iter().enumerate() {
-        add_path_card_part(alloc, text, plan, top, k, path)?;
+        add_place(text, PATH_CARDS, top, k)?;
+        add_path_card(alloc, text, plan, path)?;
+        add_group_end(text)?;
     }
     Ok(())
-}
-
-#[tactic(auto, unfolding(crate::specs::Figures::part_text))]
-fn add_path_card_part(
-    alloc: Global,
-    text: &mut String,
-    plan: &Plan,
-    top: u128,
-    k: usize,
-    path: &Path,
-) -> Result<(), AllocError>
-    requires { top ≤ 20000000000000000000000 }
-    ensures { OnOk result (string_bytes text.new ≡ string_bytes text.old ++
-        part_text (path_card_place top k (path_card plan.now path.now))) }
-{
-    let rows = Rows {
-        count: 3,
-        width: 520,
-        height: 184,
-        top,
-    };
-    add_place(text, rows, k)?;
-    add_path_card(alloc, text, plan, path)?;
-    add_group_end(text)
 }
 
 fn add_trouble_cards(
@@ -295,33 +226,12 @@ fn add_trouble_cards(
 ) -> Result<(), AllocError>
     requires { top ≤ 20000000000000000000000 }
     ensures { OnOk result (string_bytes text.new ≡ string_bytes text.old ++
-        flat_map part_text (laid_out (card_place top) 0 (map card_face cards.now))) }
+        flat_map part_text (laid_out THE_CARDS top 0 (map card_face cards.now))) }
 {
     for (k, card) in cards.iter().enumerate() {
-        add_card_part(alloc, text, top, k, card)?;
+        add_place(text, CARDS, top, k)?;
+        add_card(alloc, text, card)?;
+        add_group_end(text)?;
     }
     Ok(())
-}
-
-#[tactic(auto, unfolding(crate::specs::Figures::part_text))]
-fn add_card_part(
-    alloc: Global,
-    text: &mut String,
-    top: u128,
-    k: usize,
-    card: &OwnedCard,
-) -> Result<(), AllocError>
-    requires { top ≤ 20000000000000000000000 }
-    ensures { OnOk result (string_bytes text.new ≡ string_bytes text.old ++
-        part_text (card_place top k (card_face card.now))) }
-{
-    let rows = Rows {
-        count: 3,
-        width: 520,
-        height: 250,
-        top,
-    };
-    add_place(text, rows, k)?;
-    add_card(alloc, text, card)?;
-    add_group_end(text)
 }

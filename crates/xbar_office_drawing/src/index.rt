@@ -5,11 +5,10 @@ ghost use Rattle.xbar_office_drawing.specs.Figures.{figures_text};
 ghost use Rattle.xbar_office_drawing.specs.Index.{entry, joined_text as joined_text_of, number_before};
 
 use crate::names::first_number;
-use crate::office::add_sample;
-use crate::path_in_office::use_class;
+use crate::path_in_office::use_classes;
 use std::alloc::{AllocError, Global};
 use std::fmt;
-use svg::{Point, add_words};
+use svg::{Point, Shape, add_shapes};
 use xbar_equip::{DirNo, Path};
 use xbar_office_text::PathMember;
 use xbar_plan::Plan;
@@ -53,8 +52,16 @@ pub fn add_entry(
 {
     let name = format!(in alloc; "{path}")?;
     let joined = joined_text(alloc, plan, path)?;
-    add_sample(alloc, text, 0, 30, 15, use_class(plan, path))?;
-    add_words(text, Point::new(40, 20), "plain", name.as_str())?;
-    add_words(text, Point::new(134, 20), "plain", joined.as_str())?;
+    let (edge, core) = use_classes(plan, path);
+    let sample = [
+        Shape::Line(Point(0, 15), Point(30, 15), edge),
+        Shape::Line(Point(0, 15), Point(30, 15), core),
+    ];
+    let words = [
+        Shape::Text(Point(40, 20), "plain", name.as_str()),
+        Shape::Text(Point(134, 20), "plain", joined.as_str()),
+    ];
+    add_shapes(text, &sample)?;
+    add_shapes(text, &words)?;
     Ok(())
 }

@@ -1,13 +1,12 @@
 //! The names of lines and trunks beside the frames.
 
-ghost use Rattle.std.specs.Prelude.{◌≡◌, ◌++◌, ◌<◌, OnOk, filter, length, string_bytes};
-ghost use Rattle.svg.specs.Figure.{figure_text};
+ghost use Rattle.std.specs.Prelude.{◌≡◌, ◌++◌, OnOk, filter, length, string_bytes};
 ghost use Rattle.xbar_office_drawing.specs.Figures.{figures_text};
-ghost use Rattle.xbar_office_drawing.specs.Names.{first_number as first_number_of, is_number_of as is_number_of_line, line_name, name_level as name_level_of, named_line, names, names_after, share_line_row, share_trunk_row, trunk_name};
+ghost use Rattle.xbar_office_drawing.specs.Names.{first_number as first_number_of, is_number_of as is_number_of_line, line_name, name_level as name_level_of, names, names_after, share_line_row, share_trunk_row, trunk_name};
 
 use crate::office::frame_top;
 use std::alloc::{AllocError, Global};
-use svg::{Point, add_words};
+use svg::{Point, Shape, add_shape};
 use xbar_equip::{DirNo, Len, Path};
 use xbar_office_text::PathMember;
 use xbar_plan::{Plan, Station};
@@ -39,34 +38,8 @@ fn name_level(frame: u8, switch: u8) -> u16
     frame_top(frame) + 16 * u16::from(switch / 2) + 13
 }
 
-/// Adds the name of a path's line in a column: its number, or the line itself if it has no number.
-fn add_named_line(
-    alloc: Global,
-    text: &mut String,
-    column: u16,
-    path: &Path,
-    number: Option<DirNo>,
-) -> Result<(), AllocError>
-    requires { column < 4 }
-    ensures { OnOk result (string_bytes text.new ≡ string_bytes text.old ++
-        figure_text (named_line column path.now number)) }
-{
-    let height = name_level(path.line.frame(), path.line.switch());
-    let at = Point::new(204 - 40 * column, height);
-    match number {
-        Some(number) => {
-            let name = format!(in alloc; "{number}")?;
-            add_words(text, at, "line", name.as_str())?;
-        }
-        None => {
-            let name = format!(in alloc; "{}", path.line)?;
-            add_words(text, at, "line unlisted", name.as_str())?;
-        }
-    }
-    Ok(())
-}
-
-/// Adds the name of a path's line in a column of four; nothing beyond them.
+/// Adds the name of a path's line in a column of four, nothing beyond them: its number, or the line
+/// itself if it has no number.
 #[tactic(auto, unfolding(crate::specs::Names::line_name))]
 pub fn add_line_name(
     alloc: Global,
@@ -81,8 +54,18 @@ pub fn add_line_name(
     if column >= 4 {
         return Ok(());
     }
-    let number = first_number(plan, path.line);
-    add_named_line(alloc, text, column as u16, path, number)?;
+    let height = name_level(path.line.frame(), path.line.switch());
+    let at = Point(204 - 40 * column as u16, height);
+    match first_number(plan, path.line) {
+        Some(number) => {
+            let name = format!(in alloc; "{number}")?;
+            add_shape(text, &Shape::Text(at, "line", name.as_str()))?;
+        }
+        None => {
+            let name = format!(in alloc; "{}", path.line)?;
+            add_shape(text, &Shape::Text(at, "line unlisted", name.as_str()))?;
+        }
+    }
     Ok(())
 }
 
@@ -102,9 +85,9 @@ pub fn add_trunk_name(
         return Ok(());
     }
     let height = name_level(path.place.frame(), path.place.switch());
-    let at = Point::new(1260 + 102 * column as u16, height);
+    let at = Point(1260 + 102 * column as u16, height);
     let name = format!(in alloc; "{}", PathMember(plan, path))?;
-    add_words(text, at, "trunk", name.as_str())
+    add_shape(text, &Shape::Text(at, "trunk", name.as_str()))
 }
 
 /// Whether the names of two lines are in one row.

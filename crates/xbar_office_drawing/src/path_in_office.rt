@@ -1,129 +1,101 @@
 //! A path in the picture of its office, from the line's place to the trunk's.
 
-ghost use Rattle.std.specs.Prelude.{◌≡◌, ◌++◌, ◌≤◌, OnOk, string_bytes};
-ghost use Rattle.svg.specs.Figure.{figure_text};
+ghost use Rattle.std.specs.Prelude.{◌≡◌, ◌++◌, ◌≤◌, ◌∷◌, [], OnOk, codes, map, string_bytes};
+ghost use Rattle.svg.specs.Figure.{figure_of};
 ghost use Rattle.xbar_office_drawing.specs.Figures.{figures_text};
-ghost use Rattle.xbar_office_drawing.specs.PathInOffice.{crosspoint_dot, line_junctor_row, line_place, line_row, path_dots, path_trails, trunk_junctor_row, trunk_row, use_class as use_class_of, way};
+ghost use Rattle.xbar_office_drawing.specs.PathInOffice.{crosspoint_dot as crosspoint_dot_of, line_junctor_row, line_row, path_dots as path_dots_of, path_trails, trunk_junctor_row, trunk_row, use_class};
 
-use crate::office::{junctor_curve, row};
-use std::alloc::{AllocError, Global};
-use svg::{Bend, Point, add_circle, add_trail};
+use crate::office::{
+    LINE_JUNCTORS, LINE_SWITCHES, TRUNK_JUNCTORS, TRUNK_SWITCHES, junctor_curve, row,
+};
+use crate::shapes::SWITCH_WIDTH;
+use std::alloc::AllocError;
+use svg::{Bend, Point, Shape, add_shapes};
 use xbar_equip::{Crosspoint, Path};
 use xbar_office_text::ends_at_register;
 use xbar_plan::Plan;
 
-/// The class of a path: a register's or a call's.
-pub fn use_class(plan: &Plan, path: &Path) -> &'static str
-    ensures { result.now ≡ use_class_of plan.now path.now }
+/// The classes of a path's edge and of its core: a register's or a call's.
+pub fn use_classes(plan: &Plan, path: &Path) -> (&'static str, &'static str)
+    ensures edge { result.0.now ≡ use_class plan.now path.now ++ codes " edge" }
+    ensures core { result.1.now ≡ use_class plan.now path.now }
 {
     if ends_at_register(plan, path) {
-        "register"
+        ("register edge", "register")
     } else {
-        "call"
+        ("call edge", "call")
     }
 }
 
 /// The rows of a path's four switches.
-#[derive(Clone, Copy)]
-struct Rows {
-    line: u16,
-    line_junctor: u16,
-    trunk_junctor: u16,
-    trunk: u16,
-}
-
-impl Rows {
-    fn of(path: &Path) -> Self
-        ensures { result ≡ record {
-          line = line_row path.now;
-          line_junctor = line_junctor_row path.now;
-          trunk_junctor = trunk_junctor_row path.now;
-          trunk = trunk_row path.now;
-        } }
-    {
-        let channel = path.channel.number();
-        let line_frame = path.line.frame();
-        let trunk_frame = path.place.frame();
-        Rows {
-            line: row(line_frame, path.line.switch()),
-            line_junctor: row(line_frame, channel),
-            trunk_junctor: row(trunk_frame, channel),
-            trunk: row(trunk_frame, path.place.switch()),
-        }
-    }
-}
-
-/// The way of a path from the place of its line, through its switches, to its trunk place.
-#[tactic(auto, unfolding(crate::specs::PathInOffice::way))]
-fn way_of(path: &Path, rows: Rows) -> [Bend; 7]
-    requires { rows ≡ record {
-      line = line_row path.now;
-      line_junctor = line_junctor_row path.now;
-      trunk_junctor = trunk_junctor_row path.now;
-      trunk = trunk_row path.now;
-    } }
-    ensures { result ≡ way path.now }
+fn path_rows(path: &Path) -> [u16; 4]
+    ensures { result ≡ line_row path.now ∷ line_junctor_row path.now
+        ∷ trunk_junctor_row path.now ∷ trunk_row path.now ∷ [] }
 {
-    let end = 1170 + 8 * u16::from(path.place.appearance());
+    let channel = path.channel.number();
+    let line_frame = path.line.frame();
+    let trunk_frame = path.place.frame();
     [
-        Bend::To(Point::new(376, rows.line)),
-        Bend::To(Point::new(500, rows.line_junctor)),
-        Bend::To(Point::new(536, rows.line_junctor)),
-        junctor_curve(rows.line_junctor, 964, rows.trunk_junctor),
-        Bend::To(Point::new(1000, rows.trunk_junctor)),
-        Bend::To(Point::new(1124, rows.trunk)),
-        Bend::To(Point::new(end, rows.trunk)),
+        row(line_frame, path.line.switch()),
+        row(line_frame, channel),
+        row(trunk_frame, channel),
+        row(trunk_frame, path.place.switch()),
     ]
 }
 
-/// Adds a path as a trail: its edge, and its core.
+/// Adds a path as a trail from the place of its line, through its switches, to its trunk place:
+/// its edge, and its core.
 #[tactic(auto, unfolding(crate::specs::PathInOffice::path_trails))]
-pub fn add_trails(
-    alloc: Global,
-    text: &mut String,
-    plan: &Plan,
-    path: &Path,
-) -> Result<(), AllocError>
+pub fn add_trails(text: &mut String, plan: &Plan, path: &Path) -> Result<(), AllocError>
     ensures { OnOk result (string_bytes text.new ≡ string_bytes text.old ++
         figures_text (path_trails plan.now path.now)) }
 {
-    let class = use_class(plan, path);
-    let edge = format!(in alloc; "{class} edge")?;
-    let rows = Rows::of(path);
-    let from = Point::new(216 + 4 * u16::from(path.line.x()), rows.line);
-    let way = way_of(path, rows);
-    add_trail(text, from, &way, edge.as_str())?;
-    add_trail(text, from, &way, class)?;
-    Ok(())
+    let (edge, core) = use_classes(plan, path);
+    let [line, line_junctor, trunk_junctor, trunk] = path_rows(path);
+    let from = Point(216 + 4 * u16::from(path.line.x()), line);
+    let end = 1170 + 8 * u16::from(path.place.appearance());
+    let way = [
+        Bend::To(Point(LINE_SWITCHES + SWITCH_WIDTH, line)),
+        Bend::To(Point(LINE_JUNCTORS, line_junctor)),
+        Bend::To(Point(LINE_JUNCTORS + SWITCH_WIDTH, line_junctor)),
+        junctor_curve(line_junctor, TRUNK_JUNCTORS, trunk_junctor),
+        Bend::To(Point(TRUNK_JUNCTORS + SWITCH_WIDTH, trunk_junctor)),
+        Bend::To(Point(TRUNK_SWITCHES, trunk)),
+        Bend::To(Point(end, trunk)),
+    ];
+    let trails = [
+        Shape::Trail(from, &way, edge),
+        Shape::Trail(from, &way, core),
+    ];
+    add_shapes(text, &trails)
 }
 
-/// Adds the dot of a crosspoint in a switch with this left edge, in this row: at its field.
-fn add_dot(
-    text: &mut String,
-    class: &str,
+/// The dot of a crosspoint in a switch with this left edge, in this row: at its field.
+fn crosspoint_dot(
+    class: &'static str,
     left: u16,
     height: u16,
     crosspoint: &Crosspoint,
-) -> Result<(), AllocError>
+) -> Shape<'static>
     requires { left ≤ 1600 }
-    ensures { OnOk result (string_bytes text.new ≡ string_bytes text.old ++
-        figure_text (crosspoint_dot class.now left height crosspoint.now)) }
+    ensures { figure_of result ≡ crosspoint_dot_of class.now left height crosspoint.now }
 {
-    let center = Point::new(left + 3 * u16::from(crosspoint.field), height);
-    add_circle(text, center, 3, class)
+    let Crosspoint { field, .. } = *crosspoint;
+    let across = left + 3 + 3 * u16::from(field);
+    Shape::Circle(Point(across, height), 3, class)
 }
 
-/// Adds the four dots of a path.
-pub fn add_dots(text: &mut String, plan: &Plan, path: &Path) -> Result<(), AllocError>
-    ensures { OnOk result (string_bytes text.new ≡ string_bytes text.old ++
-        figures_text (path_dots plan.now path.now)) }
+/// The dots of the four crosspoints of a path, each in its switch.
+pub fn path_dots(plan: &Plan, path: &Path) -> [Shape<'static>; 4]
+    ensures { map figure_of result ≡ path_dots_of plan.now path.now }
 {
     let [first, second, third, fourth] = path.crosspoints();
-    let class = use_class(plan, path);
-    let rows = Rows::of(path);
-    add_dot(text, class, 343, rows.line, &first)?;
-    add_dot(text, class, 503, rows.line_junctor, &second)?;
-    add_dot(text, class, 967, rows.trunk_junctor, &third)?;
-    add_dot(text, class, 1127, rows.trunk, &fourth)?;
-    Ok(())
+    let (_, class) = use_classes(plan, path);
+    let [line, line_junctor, trunk_junctor, trunk] = path_rows(path);
+    [
+        crosspoint_dot(class, LINE_SWITCHES, line, &first),
+        crosspoint_dot(class, LINE_JUNCTORS, line_junctor, &second),
+        crosspoint_dot(class, TRUNK_JUNCTORS, trunk_junctor, &third),
+        crosspoint_dot(class, TRUNK_SWITCHES, trunk, &fourth),
+    ]
 }

@@ -7,29 +7,49 @@ ghost use Rattle.xbar_office_drawing.specs.Drawing.{cards_top as cards_top_of, d
 use std::alloc::AllocError;
 use svg::add_group;
 
-/// Pictures of one size that stand in rows of so many, from an upper edge on.
+/// Pictures of one size that stand in rows of so many.
 #[derive(Clone, Copy)]
 pub struct Rows {
     pub count: usize,
     pub width: u16,
     pub height: u16,
-    pub top: u128,
 }
 
-/// Begins the group of picture number `k`, counted from 0.
-pub fn add_place(text: &mut String, rows: Rows, k: usize) -> Result<(), AllocError>
+/// The entries of the index.
+pub const INDEX: Rows = Rows {
+    count: 4,
+    width: 390,
+    height: 24,
+};
+
+/// The cards of paths.
+pub const PATH_CARDS: Rows = Rows {
+    count: 3,
+    width: 520,
+    height: 184,
+};
+
+/// The trouble cards.
+pub const CARDS: Rows = Rows {
+    count: 3,
+    width: 520,
+    height: 250,
+};
+
+/// Begins the group of picture number `k`, counted from 0, of pictures with this upper edge.
+pub fn add_place(text: &mut String, rows: Rows, top: u128, k: usize) -> Result<(), AllocError>
     requires some { 0 < rows.count }
     requires few { rows.count ≤ 4 }
     requires narrow { rows.width ≤ 520 }
-    requires room { rows.top ≤ 20000000000000000000000 }
+    requires room { top ≤ 20000000000000000000000 }
     ensures { OnOk result (string_bytes text.new ≡ string_bytes text.old ++
         group_text (40 + rows.width * (k % rows.count))
-        (rows.top + rows.height * (k / rows.count))) }
+        (top + rows.height * (k / rows.count))) }
 {
     let column = (k % rows.count) as u16;
     let row = (k / rows.count) as u128;
     let across = 40 + rows.width * column;
-    let down = rows.top + u128::from(rows.height) * row;
+    let down = top + u128::from(rows.height) * row;
     add_group(text, across, down)
 }
 
@@ -48,7 +68,7 @@ pub fn paths_top(paths: usize) -> u128
     ensures value { result ≡ paths_top_of paths }
     ensures range { result ≤ 500000000000000000000 }
 {
-    940 + 24 * row_count(4, paths)
+    940 + u128::from(INDEX.height) * row_count(INDEX.count, paths)
 }
 
 /// The upper edge of the first trouble card.
@@ -56,12 +76,12 @@ pub fn cards_top(paths: usize) -> u128
     ensures value { result ≡ cards_top_of paths }
     ensures range { result ≤ 5000000000000000000000 }
 {
-    paths_top(paths) + 184 * row_count(3, paths)
+    paths_top(paths) + u128::from(PATH_CARDS.height) * row_count(PATH_CARDS.count, paths)
 }
 
 /// The height of a drawing with so many paths and cards.
 pub fn drawing_height(paths: usize, cards: usize) -> u128
     ensures { result ≡ drawing_height_of paths cards }
 {
-    cards_top(paths) + 250 * row_count(3, cards)
+    cards_top(paths) + u128::from(CARDS.height) * row_count(CARDS.count, cards)
 }

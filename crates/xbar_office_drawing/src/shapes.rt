@@ -1,63 +1,95 @@
 //! What is drawn once and copied: the two kinds of frames, the mesh of a switch, and a blank card.
 
-ghost use Rattle.std.specs.Prelude.{◌≡◌, ◌++◌, ◌≤◌, ◌<◌, OnOk, flat_map, map, string_bytes};
+ghost use Rattle.std.specs.Prelude.{◌≡◌, ◌++◌, ◌≤◌, OnOk, codes, flat_map, map, string_bytes};
 ghost use Rattle.std.specs.List.{range_with_len};
-ghost use Rattle.svg.specs.Figure.{figure_text};
 ghost use Rattle.xbar_office_drawing.specs.Figures.{figures_text};
-ghost use Rattle.xbar_office_drawing.specs.Shapes.{blank_card, blank_card_text, card_edge, digit_head, digit_place, digit_places, inner_link, inner_links, kind_place, level as level_of, line_frame, line_frame_text, line_row, links_from, mesh, shapes_text, switch_box, trunk_frame, trunk_frame_text, trunk_row};
+ghost use Rattle.xbar_office_drawing.specs.Shapes.{blank_card, digit_place, digit_point as digit_point_of, frame_figures, frame_row, inner_link, level as level_of, named_text, shapes_text};
 
-use std::alloc::{AllocError, Global};
-use svg::{
-    Bend, Point, add_group_end, add_line, add_named_group, add_rectangle, add_trail, add_words,
+use std::alloc::AllocError;
+use svg::{Bend, Point, Shape, add_group_end, add_named_group, add_shape};
+
+/// The width of a switch of a frame.
+pub const SWITCH_WIDTH: u16 = 36;
+
+/// A kind of frames, with the left edges of its switches on either side.
+#[derive(Clone, Copy)]
+struct Frame {
+    width: u16,
+    left: u16,
+    right: u16,
+    /// Where the strokes for its lines or trunks begin and end.
+    from: u16,
+    to: u16,
+}
+
+const LINE_FRAME: Frame = Frame {
+    width: 332,
+    left: 130,
+    right: 290,
+    from: 4,
+    to: 124,
 };
+
+const TRUNK_FRAME: Frame = Frame {
+    width: 294,
+    left: 6,
+    right: 166,
+    from: 208,
+    to: 288,
+};
+
+/// The part of a mesh that repeats: a bar of a field, and an upright of a place.
+const MESH: [Shape<'static>; 2] = [
+    Shape::Trail(Point(0, 2), &[Bend::To(Point(5, 2))], "bar"),
+    Shape::Trail(Point(2, 0), &[Bend::To(Point(2, 5))], "bar"),
+];
+
+/// A card without the places of digits: its edge, whose upper left corner is cut; a place for each
+/// kind of link, before its name; and the digits above the places.
+const CARD: [Shape<'static>; 17] = [
+    Shape::Trail(
+        Point(24, 0),
+        &[
+            Bend::To(Point(480, 0)),
+            Bend::To(Point(480, 226)),
+            Bend::To(Point(0, 226)),
+            Bend::To(Point(0, 24)),
+            Bend::To(Point(24, 0)),
+        ],
+        "card",
+    ),
+    Shape::Rectangle(Point(140, 98), 9, 15, "place"),
+    Shape::Text(Point(155, 111), "plain", "line link"),
+    Shape::Rectangle(Point(250, 98), 9, 15, "place"),
+    Shape::Text(Point(265, 111), "plain", "junctor"),
+    Shape::Rectangle(Point(360, 98), 9, 15, "place"),
+    Shape::Text(Point(375, 111), "plain", "trunk link"),
+    Shape::Text(Point(194, 136), "middle", "0"),
+    Shape::Text(Point(222, 136), "middle", "1"),
+    Shape::Text(Point(250, 136), "middle", "2"),
+    Shape::Text(Point(278, 136), "middle", "3"),
+    Shape::Text(Point(306, 136), "middle", "4"),
+    Shape::Text(Point(334, 136), "middle", "5"),
+    Shape::Text(Point(362, 136), "middle", "6"),
+    Shape::Text(Point(390, 136), "middle", "7"),
+    Shape::Text(Point(418, 136), "middle", "8"),
+    Shape::Text(Point(446, 136), "middle", "9"),
+];
 
 /// Adds the shapes, which are not drawn where they stand.
 #[tactic(auto, unfolding(crate::specs::Shapes::shapes_text))]
-pub fn add_shapes(alloc: Global, text: &mut String) -> Result<(), AllocError>
+pub fn add_shapes(text: &mut String) -> Result<(), AllocError>
     ensures { OnOk result (string_bytes text.new ≡ string_bytes text.old ++ shapes_text) }
 {
     text.push_str("<defs>\n")?;
-    add_named_line_frame(text)?;
-    add_named_trunk_frame(text)?;
-    add_named_blank_card(alloc, text)?;
+    add_named_frame(text, "line-frame", &LINE_FRAME, "lines")?;
+    add_named_frame(text, "trunk-frame", &TRUNK_FRAME, "trunks")?;
+    add_blank_card(text)?;
     text.push_str(
         "<pattern id=\"mesh\" width=\"5\" height=\"5\" patternUnits=\"userSpaceOnUse\">\n",
     )?;
-    add_mesh(text)?;
+    svg::add_shapes(text, &MESH)?;
     text.push_str("</pattern>\n</defs>\n")?;
-    Ok(())
-}
-
-#[tactic(auto, unfolding(crate::specs::Shapes::named_text))]
-fn add_named_line_frame(text: &mut String) -> Result<(), AllocError>
-    ensures { OnOk result (string_bytes text.new ≡ string_bytes text.old ++
-        line_frame_text) }
-{
-    add_named_group(text, "line-frame")?;
-    add_line_frame(text)?;
-    add_group_end(text)?;
-    Ok(())
-}
-
-#[tactic(auto, unfolding(crate::specs::Shapes::named_text))]
-fn add_named_trunk_frame(text: &mut String) -> Result<(), AllocError>
-    ensures { OnOk result (string_bytes text.new ≡ string_bytes text.old ++
-        trunk_frame_text) }
-{
-    add_named_group(text, "trunk-frame")?;
-    add_trunk_frame(text)?;
-    add_group_end(text)?;
-    Ok(())
-}
-
-#[tactic(auto, unfolding(crate::specs::Shapes::named_text))]
-fn add_named_blank_card(alloc: Global, text: &mut String) -> Result<(), AllocError>
-    ensures { OnOk result (string_bytes text.new ≡ string_bytes text.old ++
-        blank_card_text) }
-{
-    add_named_group(text, "blank-card")?;
-    add_blank_card(alloc, text)?;
-    add_group_end(text)?;
     Ok(())
 }
 
@@ -71,233 +103,86 @@ pub fn level(switch: u8) -> u16
     4 + 8 * u16::from(switch)
 }
 
-#[tactic(auto, unfolding(crate::specs::Shapes::line_frame))]
-fn add_line_frame(text: &mut String) -> Result<(), AllocError>
+#[tactic(auto, unfolding(crate::specs::Shapes::named_text, crate::specs::Shapes::frame_figures))]
+fn add_named_frame(
+    text: &mut String,
+    name: &str,
+    frame: &Frame,
+    class: &str,
+) -> Result<(), AllocError>
+    requires { frame.now.left ≤ 1000 }
     ensures { OnOk result (string_bytes text.new ≡ string_bytes text.old ++
-        figures_text line_frame) }
+        named_text name.now (frame_figures frame.now class.now)) }
 {
-    add_rectangle(text, Point::new(0, 0), 332, 80, "frame")?;
-    add_inner_links(text, 166, 290)?;
-    add_line_rows(text)
+    add_named_group(text, name)?;
+    let edge = Shape::Rectangle(Point(0, 0), frame.width, 80, "frame");
+    add_shape(text, &edge)?;
+    add_inner_links(text, frame.left + SWITCH_WIDTH, frame.right)?;
+    add_rows(text, frame, class)?;
+    add_group_end(text)?;
+    Ok(())
 }
 
-#[tactic(auto, unfolding(crate::specs::Shapes::trunk_frame))]
-fn add_trunk_frame(text: &mut String) -> Result<(), AllocError>
-    ensures { OnOk result (string_bytes text.new ≡ string_bytes text.old ++
-        figures_text trunk_frame) }
-{
-    add_rectangle(text, Point::new(0, 0), 294, 80, "frame")?;
-    add_inner_links(text, 42, 166)?;
-    add_trunk_rows(text)
-}
-
-/// Adds all links of a frame.
-#[tactic(auto, unfolding(crate::specs::Shapes::inner_links))]
+/// Adds the links of a frame, one between each two of its switches on either side.
 fn add_inner_links(text: &mut String, left: u16, right: u16) -> Result<(), AllocError>
     ensures { OnOk result (string_bytes text.new ≡ string_bytes text.old ++
-        figures_text (inner_links left right)) }
+        figures_text (map (inner_link left right) (range_with_len 0 100))) }
 {
-    for first in 0..10 {
-        add_links_from(text, left, right, first)?;
+    for link in 0..100 {
+        let from = Point(left, level(link / 10));
+        let to = Point(right, level(link % 10));
+        add_shape(text, &Shape::Line(from, to, "idle"))?;
     }
     Ok(())
 }
 
-/// Adds the links of a switch, one to each switch of the other kind.
-#[tactic(auto, unfolding(crate::specs::Shapes::links_from))]
-fn add_links_from(text: &mut String, left: u16, right: u16, first: u8) -> Result<(), AllocError>
+/// Adds the rows of a frame: lines or trunks of this class, and a switch on either side.
+fn add_rows(text: &mut String, frame: &Frame, class: &str) -> Result<(), AllocError>
     ensures { OnOk result (string_bytes text.new ≡ string_bytes text.old ++
-        figures_text (links_from left right first)) }
-{
-    for second in 0..10 {
-        add_inner_link(text, left, right, first, second)?;
-    }
-    Ok(())
-}
-
-#[tactic(auto, unfolding(crate::specs::Shapes::inner_link))]
-fn add_inner_link(
-    text: &mut String,
-    left: u16,
-    right: u16,
-    first: u8,
-    second: u8,
-) -> Result<(), AllocError>
-    ensures { OnOk result (string_bytes text.new ≡ string_bytes text.old ++
-        figure_text (inner_link left right first second)) }
-{
-    let from = Point::new(left, level(first));
-    let to = Point::new(right, level(second));
-    add_line(text, from, to, "idle")
-}
-
-#[tactic(auto, unfolding(crate::specs::Shapes::switch_box))]
-fn add_switch(text: &mut String, left: u16, switch: u8) -> Result<(), AllocError>
-    ensures { OnOk result (string_bytes text.new ≡ string_bytes text.old ++
-        figure_text (switch_box left switch)) }
-{
-    add_rectangle(text, Point::new(left, level(switch) - 3), 36, 6, "switch")
-}
-
-fn add_line_rows(text: &mut String) -> Result<(), AllocError>
-    ensures { OnOk result (string_bytes text.new ≡ string_bytes text.old ++
-        figures_text (flat_map line_row (range_with_len 0 10))) }
+        figures_text (flat_map (frame_row frame.now class.now) (range_with_len 0 10))) }
 {
     for switch in 0..10 {
-        add_line_row(text, switch)?;
+        let height = level(switch);
+        let from = Point(frame.from, height);
+        let row = [
+            Shape::Line(from, Point(frame.to, height), class),
+            Shape::Rectangle(Point(frame.left, height - 3), SWITCH_WIDTH, 6, "switch"),
+            Shape::Rectangle(Point(frame.right, height - 3), SWITCH_WIDTH, 6, "switch"),
+        ];
+        svg::add_shapes(text, &row)?;
     }
-    Ok(())
-}
-
-/// Adds the lines of a line switch, that switch, and the junctor switch in the same row.
-#[tactic(auto, unfolding(crate::specs::Shapes::line_row))]
-fn add_line_row(text: &mut String, switch: u8) -> Result<(), AllocError>
-    ensures { OnOk result (string_bytes text.new ≡ string_bytes text.old ++
-        figures_text (line_row switch)) }
-{
-    let height = level(switch);
-    add_line(
-        text,
-        Point::new(4, height),
-        Point::new(124, height),
-        "lines",
-    )?;
-    add_switch(text, 130, switch)?;
-    add_switch(text, 290, switch)?;
-    Ok(())
-}
-
-fn add_trunk_rows(text: &mut String) -> Result<(), AllocError>
-    ensures { OnOk result (string_bytes text.new ≡ string_bytes text.old ++
-        figures_text (flat_map trunk_row (range_with_len 0 10))) }
-{
-    for switch in 0..10 {
-        add_trunk_row(text, switch)?;
-    }
-    Ok(())
-}
-
-/// Adds the trunks of a trunk switch, a junctor switch, and that trunk switch.
-#[tactic(auto, unfolding(crate::specs::Shapes::trunk_row))]
-fn add_trunk_row(text: &mut String, switch: u8) -> Result<(), AllocError>
-    ensures { OnOk result (string_bytes text.new ≡ string_bytes text.old ++
-        figures_text (trunk_row switch)) }
-{
-    let height = level(switch);
-    add_line(
-        text,
-        Point::new(208, height),
-        Point::new(288, height),
-        "trunks",
-    )?;
-    add_switch(text, 6, switch)?;
-    add_switch(text, 166, switch)?;
-    Ok(())
-}
-
-// ---- the mesh of a switch
-
-/// Adds the part of a mesh that repeats.
-#[tactic(auto, unfolding(crate::specs::Shapes::mesh))]
-fn add_mesh(text: &mut String) -> Result<(), AllocError>
-    ensures { OnOk result (string_bytes text.new ≡ string_bytes text.old ++ figures_text mesh) }
-{
-    add_trail(text, Point::new(0, 2), &[Bend::To(Point::new(5, 2))], "bar")?;
-    add_trail(text, Point::new(2, 0), &[Bend::To(Point::new(2, 5))], "bar")?;
     Ok(())
 }
 
 // ---- a blank card
 
-#[tactic(auto, unfolding(crate::specs::Shapes::blank_card))]
-fn add_blank_card(alloc: Global, text: &mut String) -> Result<(), AllocError>
+#[tactic(auto, unfolding(crate::specs::Shapes::named_text, crate::specs::Shapes::blank_card))]
+fn add_blank_card(text: &mut String) -> Result<(), AllocError>
     ensures { OnOk result (string_bytes text.new ≡ string_bytes text.old ++
-        figures_text blank_card) }
+        named_text (codes "blank-card") blank_card) }
 {
-    add_card_edge(text)?;
-    add_kind_place(text, 0, "line link")?;
-    add_kind_place(text, 1, "junctor")?;
-    add_kind_place(text, 2, "trunk link")?;
-    add_digit_heads(alloc, text)?;
-    add_digit_rows(text)
-}
-
-/// Adds the edge of a card, whose upper left corner is cut.
-#[tactic(auto, unfolding(crate::specs::Shapes::card_edge))]
-fn add_card_edge(text: &mut String) -> Result<(), AllocError>
-    ensures { OnOk result (string_bytes text.new ≡ string_bytes text.old ++
-        figure_text card_edge) }
-{
-    let bends = [
-        Bend::To(Point::new(480, 0)),
-        Bend::To(Point::new(480, 226)),
-        Bend::To(Point::new(0, 226)),
-        Bend::To(Point::new(0, 24)),
-        Bend::To(Point::new(24, 0)),
-    ];
-    add_trail(text, Point::new(24, 0), &bends, "card")
-}
-
-/// Adds the place of a kind of link, before its name.
-#[tactic(auto, unfolding(crate::specs::Shapes::kind_place))]
-fn add_kind_place(text: &mut String, column: u8, name: &str) -> Result<(), AllocError>
-    ensures { OnOk result (string_bytes text.new ≡ string_bytes text.old ++
-        figures_text (kind_place column name.now)) }
-{
-    let across = 110 * u16::from(column);
-    add_rectangle(text, Point::new(140 + across, 98), 9, 15, "place")?;
-    add_words(text, Point::new(155 + across, 111), "plain", name)?;
+    add_named_group(text, "blank-card")?;
+    svg::add_shapes(text, &CARD)?;
+    add_digit_places(text)?;
+    add_group_end(text)?;
     Ok(())
 }
 
-/// Adds the digits above the rows of ten places.
-fn add_digit_heads(alloc: Global, text: &mut String) -> Result<(), AllocError>
+/// Adds three rows of ten places.
+fn add_digit_places(text: &mut String) -> Result<(), AllocError>
     ensures { OnOk result (string_bytes text.new ≡ string_bytes text.old ++
-        figures_text (map digit_head (range_with_len 0 10))) }
+        figures_text (map digit_place (range_with_len 0 30))) }
 {
-    for digit in 0..10 {
-        add_digit_head(alloc, text, digit)?;
+    for place in 0..30 {
+        let corner = digit_point(place / 10, place % 10);
+        add_shape(text, &Shape::Rectangle(corner, 9, 15, "place"))?;
     }
     Ok(())
 }
 
-#[tactic(auto, unfolding(crate::specs::Shapes::digit_head))]
-fn add_digit_head(alloc: Global, text: &mut String, digit: u8) -> Result<(), AllocError>
-    ensures { OnOk result (string_bytes text.new ≡ string_bytes text.old ++
-        figure_text (digit_head digit)) }
+/// The upper left corner of the place of a digit in a row.
+pub fn digit_point(row: u8, digit: u8) -> Point
+    ensures { result ≡ digit_point_of row digit }
 {
-    let content = format!(in alloc; "{digit}")?;
-    let at = Point::new(194 + 28 * u16::from(digit), 136);
-    add_words(text, at, "middle", content.as_str())
-}
-
-fn add_digit_rows(text: &mut String) -> Result<(), AllocError>
-    ensures { OnOk result (string_bytes text.new ≡ string_bytes text.old ++
-        figures_text (flat_map digit_places (range_with_len 0 3))) }
-{
-    for row in 0..3 {
-        add_digit_places(text, row)?;
-    }
-    Ok(())
-}
-
-/// Adds the ten places of a row.
-#[tactic(auto, unfolding(crate::specs::Shapes::digit_places))]
-fn add_digit_places(text: &mut String, row: u8) -> Result<(), AllocError>
-    ensures { OnOk result (string_bytes text.new ≡ string_bytes text.old ++
-        figures_text (digit_places row)) }
-{
-    for digit in 0..10 {
-        add_digit_place(text, row, digit)?;
-    }
-    Ok(())
-}
-
-#[tactic(auto, unfolding(crate::specs::Shapes::digit_place))]
-fn add_digit_place(text: &mut String, row: u8, digit: u8) -> Result<(), AllocError>
-    ensures { OnOk result (string_bytes text.new ≡ string_bytes text.old ++
-        figure_text (digit_place row digit)) }
-{
-    let corner = Point::new(190 + 28 * u16::from(digit), 142 + 26 * u16::from(row));
-    add_rectangle(text, corner, 9, 15, "place")
+    Point(190 + 28 * u16::from(digit), 142 + 26 * u16::from(row))
 }

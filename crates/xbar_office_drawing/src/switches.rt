@@ -1,17 +1,42 @@
 //! The card of a path: the path in words, and its four switches.
 
-ghost use Rattle.std.specs.Prelude.{◌≡◌, ◌++◌, ◌≤◌, IfOk, OnOk, Some, string_bytes};
-ghost use Rattle.svg.specs.Figure.{figure_text};
+ghost use Rattle.std.specs.Prelude.{◌≡◌, ◌++◌, ◌≤◌, IfOk, OnOk, string_bytes};
 ghost use Rattle.xbar_equip.specs.Crosspoint.{crosspoints};
 ghost use Rattle.xbar_office_drawing.specs.Figures.{figures_text};
-ghost use Rattle.xbar_office_drawing.specs.Switches.{bar_at as bar_at_of, closed_trail, crossing, field_words, path_card, path_heading as path_heading_of, path_links, path_title, switch_face, switch_name as switch_name_of, switches_of, upright_at as upright_at_of, word_words};
+ghost use Rattle.xbar_office_drawing.specs.Switches.{path_card, path_heading as path_heading_of, path_title, switch_face, switch_name as switch_name_of, switches_of};
 
 use std::alloc::{AllocError, Global};
-use std::fmt;
-use svg::{Bend, Point, add_circle, add_rectangle, add_trail, add_words};
+use svg::{Bend, Point, Shape, add_shape, add_shapes};
 use xbar_equip::{Crosspoint, Path};
 use xbar_office_text::path_end;
 use xbar_plan::Plan;
+
+/// Where a switch is on a path's card: its left edge, and how many places it has.
+#[derive(Clone, Copy)]
+struct Face {
+    left: u16,
+    places: u16,
+}
+
+const LINE_SWITCH: Face = Face {
+    left: 5,
+    places: 30,
+};
+
+const LINE_JUNCTOR: Face = Face {
+    left: 190,
+    places: 10,
+};
+
+const TRUNK_JUNCTOR: Face = Face {
+    left: 290,
+    places: 10,
+};
+
+const TRUNK_SWITCH: Face = Face {
+    left: 390,
+    places: 10,
+};
 
 /// Adds the card of a path.
 #[tactic(auto, unfolding(crate::specs::Switches::path_card))]
@@ -26,23 +51,6 @@ pub fn add_path_card(
 {
     add_title(alloc, text, plan, path)?;
     add_switches(alloc, text, path)
-}
-
-/// The three links of a path.
-#[derive(Clone, Copy)]
-struct PathLinks<'p>(&'p Path);
-
-impl fmt::Display for PathLinks<'_> {
-    ghost output = { λ links. Some (path_links links.0.now) };
-
-    #[tactic(auto, unfolding(crate::specs::Switches::path_links))]
-    fn fmt<W: fmt::Write>(&self, f: &mut fmt::Formatter<W>) -> fmt::Result {
-        let path = self.0;
-        let line_link = path.line_link();
-        let junctor = path.junctor();
-        let trunk_link = path.trunk_link();
-        write!(f, "{line_link}, {junctor}, {trunk_link}")
-    }
 }
 
 /// The line of a path, its channel, what it leads to, and its trunk place, in words.
@@ -65,11 +73,17 @@ fn add_title(alloc: Global, text: &mut String, plan: &Plan, path: &Path) -> Resu
         figures_text (path_title plan.now path.now)) }
 {
     let title = format!(in alloc; "{path}")?;
-    let links = format!(in alloc; "{}", PathLinks(path))?;
+    let line_link = path.line_link();
+    let junctor = path.junctor();
+    let trunk_link = path.trunk_link();
+    let links = format!(in alloc; "{line_link}, {junctor}, {trunk_link}")?;
     let told = path_heading(alloc, plan, path)?;
-    add_words(text, Point::new(0, 16), "big", title.as_str())?;
-    add_words(text, Point::new(480, 16), "end", links.as_str())?;
-    add_words(text, Point::new(0, 36), "plain", told.as_str())?;
+    let words = [
+        Shape::Text(Point(0, 16), "big", title.as_str()),
+        Shape::Text(Point(480, 16), "end", links.as_str()),
+        Shape::Text(Point(0, 36), "plain", told.as_str()),
+    ];
+    add_shapes(text, &words)?;
     Ok(())
 }
 
@@ -80,19 +94,17 @@ fn add_switches(alloc: Global, text: &mut String, path: &Path) -> Result<(), All
         figures_text (switches_of path.now (crosspoints path.now))) }
 {
     let [first, second, third, fourth] = path.crosspoints();
-    let line_frame = path.line.frame();
-    let line_switch = path.line.switch();
     let channel = path.channel.number();
+    let line_frame = path.line.frame();
     let trunk_frame = path.place.frame();
-    let trunk_switch = path.place.switch();
-    let line = switch_name(alloc, "line switch ", line_frame, line_switch)?;
-    let line_junctor = switch_name(alloc, "junctor ", line_frame, channel)?;
-    let trunk_junctor = switch_name(alloc, "junctor ", trunk_frame, channel)?;
-    let trunk = switch_name(alloc, "trunk ", trunk_frame, trunk_switch)?;
-    add_switch(alloc, text, 5, 30, line.as_str(), &first)?;
-    add_switch(alloc, text, 190, 10, line_junctor.as_str(), &second)?;
-    add_switch(alloc, text, 290, 10, trunk_junctor.as_str(), &third)?;
-    add_switch(alloc, text, 390, 10, trunk.as_str(), &fourth)?;
+    let line = (line_frame, path.line.switch());
+    let near = (line_frame, channel);
+    let far = (trunk_frame, channel);
+    let trunk = (trunk_frame, path.place.switch());
+    add_switch(alloc, text, &LINE_SWITCH, "line switch", line, &first)?;
+    add_switch(alloc, text, &LINE_JUNCTOR, "junctor", near, &second)?;
+    add_switch(alloc, text, &TRUNK_JUNCTOR, "junctor", far, &third)?;
+    add_switch(alloc, text, &TRUNK_SWITCH, "trunk", trunk, &fourth)?;
     Ok(())
 }
 
@@ -101,104 +113,48 @@ fn add_switches(alloc: Global, text: &mut String, path: &Path) -> Result<(), All
 fn switch_name(alloc: Global, kind: &str, frame: u8, number: u8) -> Result<String, AllocError>
     ensures { IfOk result (λ name. string_bytes name ≡ switch_name_of kind.now frame number) }
 {
-    format!(in alloc; "{kind}{frame},{number}")
+    format!(in alloc; "{kind} {frame},{number}")
 }
 
-/// Adds a switch with this many places, its closed crosspoint, its word and its field.
+/// Adds a switch, by its frame and its number on the frame, with its closed crosspoint: the stroke
+/// along the bar and down the upright, the dot where they cross, the word, and the field.
 #[tactic(auto, unfolding(crate::specs::Switches::switch_face))]
 fn add_switch(
     alloc: Global,
     text: &mut String,
-    left: u16,
-    places: u8,
-    name: &str,
+    face: &Face,
+    kind: &str,
+    switch: (u8, u8),
     crosspoint: &Crosspoint,
 ) -> Result<(), AllocError>
-    requires left { 5 ≤ left }
-    requires room { left ≤ 1000 }
+    requires left { 5 ≤ face.now.left }
+    requires room { face.now.left ≤ 1000 }
+    requires few { face.now.places ≤ 30 }
     ensures { OnOk result (string_bytes text.new ≡ string_bytes text.old ++
-        figures_text (switch_face left places name.now crosspoint.now)) }
+        figures_text (switch_face face.now kind.now switch.0 switch.1 crosspoint.now)) }
 {
-    let width = 5 * u16::from(places);
-    add_words(text, Point::new(left, 60), "plain", name)?;
-    add_rectangle(text, Point::new(left, 70), width, 50, "mesh")?;
-    add_closed(text, left, crosspoint)?;
-    add_crossing(text, left, crosspoint)?;
-    add_word(alloc, text, left, crosspoint)?;
-    add_field(alloc, text, left, crosspoint)?;
-    Ok(())
-}
-
-/// The height of the bar for a crosspoint's field.
-fn bar_at(crosspoint: &Crosspoint) -> u16
-    ensures { result ≡ bar_at_of crosspoint.now }
-{
-    72 + 5 * u16::from(crosspoint.field)
-}
-
-/// The upright of the place that a field is joined to, in a switch with this left edge.
-fn upright_at(left: u16, crosspoint: &Crosspoint) -> u16
-    requires left { 5 ≤ left }
-    requires room { left ≤ 1000 }
-    ensures { result ≡ upright_at_of left crosspoint.now }
-{
-    left + 5 * u16::from(crosspoint.value) - 3
-}
-
-/// Adds the stroke through a closed crosspoint: along the bar, then down the upright.
-#[tactic(auto, unfolding(crate::specs::Switches::closed_trail))]
-fn add_closed(text: &mut String, left: u16, crosspoint: &Crosspoint) -> Result<(), AllocError>
-    requires left { 5 ≤ left }
-    requires room { left ≤ 1000 }
-    ensures { OnOk result (string_bytes text.new ≡ string_bytes text.old ++
-        figure_text (closed_trail left crosspoint.now)) }
-{
-    let across = upright_at(left, crosspoint);
-    let height = bar_at(crosspoint);
-    let bends = [
-        Bend::To(Point::new(across, height)),
-        Bend::To(Point::new(across, 124)),
+    let Face { left, places } = *face;
+    let Crosspoint { word, field, value } = *crosspoint;
+    let across = left + 5 * u16::from(value) - 3;
+    let height = 72 + 5 * u16::from(field);
+    let stroke = [
+        Bend::To(Point(across, height)),
+        Bend::To(Point(across, 124)),
     ];
-    add_trail(text, Point::new(left - 5, height), &bends, "closed")
-}
-
-/// Adds the dot where the bar crosses the upright.
-fn add_crossing(text: &mut String, left: u16, crosspoint: &Crosspoint) -> Result<(), AllocError>
-    requires left { 5 ≤ left }
-    requires room { left ≤ 1000 }
-    ensures { OnOk result (string_bytes text.new ≡ string_bytes text.old ++
-        figure_text (crossing left crosspoint.now)) }
-{
-    let center = Point::new(upright_at(left, crosspoint), bar_at(crosspoint));
-    add_circle(text, center, 3, "point")
-}
-
-/// Adds the word of a switch, below it.
-fn add_word(
-    alloc: Global,
-    text: &mut String,
-    left: u16,
-    crosspoint: &Crosspoint,
-) -> Result<(), AllocError>
-    ensures { OnOk result (string_bytes text.new ≡ string_bytes text.old ++
-        figure_text (word_words left crosspoint.now)) }
-{
-    let number = crosspoint.word.number();
-    let content = format!(in alloc; "word {number}")?;
-    add_words(text, Point::new(left, 140), "field", content.as_str())
-}
-
-/// Adds a field and what it holds, below that.
-fn add_field(
-    alloc: Global,
-    text: &mut String,
-    left: u16,
-    crosspoint: &Crosspoint,
-) -> Result<(), AllocError>
-    ensures { OnOk result (string_bytes text.new ≡ string_bytes text.old ++
-        figure_text (field_words left crosspoint.now)) }
-{
-    let Crosspoint { field, value, .. } = crosspoint;
-    let content = format!(in alloc; "field {field} = {value}")?;
-    add_words(text, Point::new(left, 158), "field", content.as_str())
+    let name = switch_name(alloc, kind, switch.0, switch.1)?;
+    let told_word = format!(in alloc; "word {}", word.number())?;
+    let told_field = format!(in alloc; "field {field} = {value}")?;
+    let mesh = Shape::Rectangle(Point(left, 70), 5 * places, 50, "mesh");
+    let closed = Shape::Trail(Point(left - 5, height), &stroke, "closed");
+    let crossing = Shape::Circle(Point(across, height), 3, "point");
+    let below = [
+        Shape::Text(Point(left, 140), "field", told_word.as_str()),
+        Shape::Text(Point(left, 158), "field", told_field.as_str()),
+    ];
+    add_shape(text, &Shape::Text(Point(left, 60), "plain", name.as_str()))?;
+    add_shape(text, &mesh)?;
+    add_shape(text, &closed)?;
+    add_shape(text, &crossing)?;
+    add_shapes(text, &below)?;
+    Ok(())
 }

@@ -1,24 +1,12 @@
 -- A path at a glance is one line, since the names of groups have letters and digits alone.
-use Rattle.std.proofs.Common.{◌≡◌, ℕ, Bool, true, false, List, [], ◌∷◌, ◌++◌, map, refl, ap, ◌∙◌, subst, append_assoc}
-use Rattle.std.specs.Prelude.{◌==◌, not, codes, flat_map, Option, Some, None, option_and_then, slice_get}
-use Rattle.std.specs.List.{list_all}
-use Rattle.std.specs.Option.{option_map_or}
-use borrow.Author.Tests.{eqb-true}
-use Rattle.xbar_equip.proofs.Logic.{both, both_hold}
-use Rattle.xbar_equip.specs.Ten.{TrunkPlace}
-use Rattle.xbar_equip.specs.declared.path.Path.{Path}
-use Rattle.xbar_office.specs.Standing.{ends_at_register}
-use Rattle.xbar_plan.specs.Group.{TrunkGroup}
-use Rattle.xbar_plan.specs.Lawful.{IsLawful, is_name, is_name_character, is_well_formed_group, has_its_places}
-use Rattle.xbar_plan.specs.Tables.{Tables, member_place}
-use Rattle.xbar_plan.specs.declared.group.MemberPlace.{MemberPlace}
-use Rattle.xbar_plan.proofs.Distinct.{item_passes}
-use Rattle.xbar_plan.proofs.LawfulParts.{formed}
-use Rattle.xbar_office_text.specs.Ends.{group_name, member_name, member_text, other_text, use_text, with_place}
-use Rattle.xbar_office_text.specs.Glance.{glance, glance_line}
-use Rattle.xbar_equip.specs.TextLines.{lines, IsWholeLine}
+use Rattle.std.proofs.Common.{◌≡◌, ℕ, Bool, true, false, List, [], ◌∷◌, ◌++◌, map, refl, ap, ◌∙◌, subst, append_assoc, ◌==◌, not, codes, flat_map, Option, Some}
+use Rattle.std.proofs.Common.{None, option_and_then, slice_get, eqb-true}
+use Rattle.{std.specs.{List.list_all, Option.option_map_or}, xbar_equip.proofs.{Logic.{both, both_hold}, WholeLines.whole_line_first}}
+use Rattle.{xbar_equip.specs.{Ten.TrunkPlace, declared.path.Path.Path, TextLines.{lines, IsWholeLine}}, xbar_office.specs.Standing.ends_at_register}
+use Rattle.xbar_plan.specs.{Group.TrunkGroup, Lawful.{IsLawful, is_name, is_name_character, is_well_formed_group, has_its_places}}
+use Rattle.xbar_plan.{specs.{Tables.{Tables, member_place}, declared.group.MemberPlace.MemberPlace}, proofs.{Distinct.item_passes, LawfulParts.formed}}
+use Rattle.xbar_office_text.specs.{Ends.{group_name, member_name, member_text, other_text, use_text, with_place}, Glance.{glance, glance_line}}
 use Rattle.xbar_office_text.proofs.PlainTexts.{plain_choice, plain_channel, plain_decimal, plain_line, plain_place}
-use Rattle.xbar_equip.proofs.WholeLines.{whole_line_first}
 use Rattle.xbar_office_text.proofs.WholeLines.{lacks_feed, IsPlain, plain_append, plain_nothing, plain_with, whole_append, whole_feed, whole_with}
 
 -- a character of a name is no line feed
@@ -32,7 +20,8 @@ characters_lack (x ∷ name) h =
     let h2 = both (is_name_character x) (list_all is_name_character name) h in
     both_hold _ _ (character_unlike x (x == 10) refl h2.0) (characters_lack name h2.1)
 
-plain_found : (plan : Tables) → IsLawful plan → (number : ℕ) (found : Option TrunkGroup) → slice_get plan.groups number ≡ found → IsPlain (option_map_or (λ (g : TrunkGroup). g.name) found [])
+plain_found : (plan : Tables) → IsLawful plan → (number : ℕ) (found : Option TrunkGroup) → slice_get plan.groups number ≡ found
+    → IsPlain (option_map_or (λ (g : TrunkGroup). g.name) found [])
 plain_found plan lawful number None e = plain_nothing
 plain_found plan lawful number (Some group) e =
     let fine = item_passes is_well_formed_group plan.groups number group (formed plan lawful).groups e in
@@ -65,17 +54,21 @@ plain_other_text plan path = plain_other (option_and_then (λ (m : MemberPlace).
 plain_use : (plan : Tables) → IsLawful plan → (path : Path) → IsPlain (use_text plan path)
 unfolding use_text
 plain_use plan lawful path =
-    plain_append (plain_choice (ends_at_register plan path) {x = codes "register's path: "} {y = codes "call: "} (record { lacks = refl }) (record { lacks = refl }))
+    plain_append (plain_choice (ends_at_register plan path) {x = codes "register's path: "} {y = codes "call: "} (record { lacks = refl })
+    (record { lacks = refl }))
     (plain_append (plain_member_text plan lawful path) (plain_append (plain_other_text plan path) plain_nothing))
 
 pub glance_line_whole : (plan : Tables) → IsLawful plan → (path : Path) → IsWholeLine (glance_line plan path)
 unfolding glance_line
 glance_line_whole plan lawful path =
-    whole_append (plain_line path.line) (whole_with (codes " --[frame ") refl (whole_append (plain_decimal path.line.frame) (whole_with (codes "]-- channel ") refl
-    (whole_append (plain_channel path.channel) (whole_with (codes " --[frame ") refl (whole_append (plain_decimal path.place.frame) (whole_with (codes "]-- ") refl
+    whole_append (plain_line path.line) (whole_with (codes " --[frame ") refl
+    (whole_append (plain_decimal path.line.frame) (whole_with (codes "]-- channel ") refl
+    (whole_append (plain_channel path.channel) (whole_with (codes " --[frame ") refl
+    (whole_append (plain_decimal path.place.frame) (whole_with (codes "]-- ") refl
     (whole_append (plain_place path.place) (whole_with (codes "   ") refl (whole_append (plain_use plan lawful path) whole_feed))))))))))
 
-lines_of_paths : (plan : Tables) → IsLawful plan → (paths : List Path) (rest : List ℕ) → lines (flat_map (glance_line plan) paths ++ rest) ≡ map (glance_line plan) paths ++ lines rest
+lines_of_paths : (plan : Tables) → IsLawful plan → (paths : List Path) (rest : List ℕ)
+    → lines (flat_map (glance_line plan) paths ++ rest) ≡ map (glance_line plan) paths ++ lines rest
 lines_of_paths plan lawful [] rest = refl
 lines_of_paths plan lawful (path ∷ paths) rest =
     ap lines (append_assoc (glance_line plan path) (flat_map (glance_line plan) paths) rest)

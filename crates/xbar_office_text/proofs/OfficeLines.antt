@@ -1,28 +1,12 @@
 -- What the lines of a whole office's text are.
-use Rattle.std.proofs.Common.{◌≡◌, ℕ, ◌+◌, false, List, [], ◌∷◌, ◌++◌, length, map, take, refl, ap, ◌∙◌, arith, append-nil}
-use Rattle.std.specs.Prelude.{codes, filter, flat_map}
-use Rattle.std.proofs.lemmas.List.{length-map, take_at}
-use Rattle.xbar_equip.specs.declared.path.Path.{Path}
-use Rattle.xbar_office.specs.Standing.{ends_at_register}
-use Rattle.xbar_office.specs.declared.reply.Record.{Record}
-use Rattle.xbar_office_text.specs.PathLines.{path_lines}
-use Rattle.xbar_plan.specs.Lawful.{IsLawful}
-use Rattle.xbar_plan.specs.Tables.{Tables}
-use Rattle.xbar_office_text.specs.Cards.{cards_of, title_row}
-use Rattle.xbar_office_text.specs.Ends.{end_text}
-use Rattle.xbar_office_text.specs.Faults.{faults_of, fault_lines}
-use Rattle.xbar_office_text.specs.Glance.{glance, glance_line}
-use Rattle.xbar_office_text.specs.Picture.{heading, picture}
-use Rattle.xbar_office_text.specs.Text.{office_text}
-use Rattle.xbar_equip.specs.TextLines.{lines}
-use Rattle.xbar_office_text.specs.Titles.{is_title}
-use Rattle.xbar_office_text.proofs.CardLines.{titles_of_records}
-use Rattle.xbar_office_text.proofs.FaultLines.{none_in_faults}
-use Rattle.xbar_office_text.proofs.GlanceLines.{glance_line_whole, lines_of_glance, plain_member_text}
+use Rattle.std.proofs.Common.{◌≡◌, ℕ, ◌+◌, false, List, [], ◌∷◌, ◌++◌, length, map, take, refl, ap, ◌∙◌, arith, append-nil, codes, filter, flat_map, take_at}
+use Rattle.{std.proofs.lemmas.List.length-map, xbar_equip.specs.{declared.path.Path.Path, TextLines.lines}, xbar_office.specs.Standing.ends_at_register}
+use Rattle.{xbar_office.specs.declared.reply.Record.Record, xbar_office_text.specs.{PathLines.path_lines, Cards.{cards_of, title_row}, Ends.end_text}}
+use Rattle.xbar_office_text.specs.{Faults.{faults_of, fault_lines}, Glance.{glance, glance_line}, Picture.{heading, picture}, Text.office_text, Titles.is_title}
+use Rattle.xbar_office_text.proofs.{CardLines.titles_of_records, FaultLines.none_in_faults, GlanceLines.{glance_line_whole, lines_of_glance, plain_member_text}}
 use Rattle.xbar_office_text.proofs.OtherLines.{IsOther, HasNoTitle, none_append, none_choice, none_flat_map, none_line}
-use Rattle.xbar_office_text.proofs.PictureLines.{blank_unlike, none_in_path}
-use Rattle.xbar_office_text.proofs.PlainTexts.{plain_choice}
-use Rattle.xbar_office_text.proofs.WholeLines.{IsPlain, plain_append, whole_feed, whole_with}
+use Rattle.xbar_office_text.proofs.{PictureLines.{blank_unlike, none_in_path}, PlainTexts.plain_choice}
+use Rattle.{xbar_office_text.proofs.WholeLines.{IsPlain, plain_append, whole_feed, whole_with}, xbar_plan.specs.{Lawful.IsLawful, Tables.Tables}}
 
 glance_line_unlike : (plan : Tables) (path : Path) → is_title (glance_line plan path) ≡ false
 unfolding glance_line
@@ -39,7 +23,8 @@ unfolding glance
 none_in_glance plan lawful [] = none_line (codes "No path is up.\n") no_path_line
 none_in_glance plan lawful (path ∷ paths) =
     none_append (codes "PATHS AT A GLANCE\n") (flat_map (glance_line plan) (path ∷ paths)) (none_line (codes "PATHS AT A GLANCE\n") glance_heading)
-    (none_flat_map (glance_line plan) (path ∷ paths) (λ p. none_line (glance_line plan p) (record { whole = glance_line_whole plan lawful p; other = glance_line_unlike plan p })))
+    (none_flat_map (glance_line plan) (path ∷ paths)
+    (λ p. none_line (glance_line plan p) (record { whole = glance_line_whole plan lawful p; other = glance_line_unlike plan p })))
 
 blank_line : IsOther (10 ∷ [])
 blank_line = record { whole = whole_feed; other = refl }
@@ -60,15 +45,18 @@ none_in_heading plan path =
 plain_end : (plan : Tables) → IsLawful plan → (path : Path) → IsPlain (end_text plan path)
 unfolding end_text
 plain_end plan lawful path =
-    plain_append (plain_choice (ends_at_register plan path) {x = codes "register "} {y = codes "trunk "} (record { lacks = refl }) (record { lacks = refl })) (plain_member_text plan lawful path)
+    plain_append (plain_choice (ends_at_register plan path) {x = codes "register "} {y = codes "trunk "} (record { lacks = refl }) (record { lacks = refl }))
+    (plain_member_text plan lawful path)
 
 none_in_picture : (plan : Tables) → IsLawful plan → (path : Path) → HasNoTitle (picture plan path)
 unfolding picture
 none_in_picture plan lawful path =
-    none_append (heading plan path) (path_lines path (end_text plan path)) (none_in_heading plan path) (none_in_path path (end_text plan path) (plain_end plan lawful path))
+    none_append (heading plan path) (path_lines path (end_text plan path)) (none_in_heading plan path)
+    (none_in_path path (end_text plan path) (plain_end plan lawful path))
 
 -- the titles among the lines are those of all cards
-pub titles_of_office : (plan : Tables) (paths : List Path) (records : List Record) → IsLawful plan → filter is_title (lines (office_text plan paths records)) ≡ map title_row (flat_map (λ (owner : Record). owner.reply.cards) records)
+pub titles_of_office : (plan : Tables) (paths : List Path) (records : List Record) → IsLawful plan
+    → filter is_title (lines (office_text plan paths records)) ≡ map title_row (flat_map (λ (owner : Record). owner.reply.cards) records)
 unfolding office_text
 titles_of_office plan paths records lawful =
     let r3 = flat_map cards_of records ++ [] in

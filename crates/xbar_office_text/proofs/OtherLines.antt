@@ -1,9 +1,6 @@
 -- Texts of whole lines, none of which is the title of a card.
-use Rattle.std.proofs.Common.{◌≡◌, ℕ, Bool, true, false, cond, List, [], ◌∷◌, ◌++◌, refl, ap, ◌∙◌, append_assoc}
-use Rattle.std.specs.Prelude.{filter, flat_map}
-use Rattle.xbar_equip.specs.TextLines.{lines, IsWholeLine}
-use Rattle.xbar_office_text.specs.Titles.{is_title}
-use Rattle.xbar_equip.proofs.WholeLines.{whole_line_first}
+use Rattle.std.proofs.Common.{◌≡◌, ℕ, Bool, true, false, cond, List, [], ◌∷◌, ◌++◌, refl, ap, ◌∙◌, append_assoc, filter, flat_map}
+use Rattle.{xbar_equip.{specs.TextLines.{lines, IsWholeLine}, proofs.WholeLines.whole_line_first}, xbar_office_text.specs.Titles.is_title}
 
 -- a line that is no title
 pub record IsOther (line : List ℕ) : Type 0 where

@@ -1,16 +1,10 @@
 -- The eight lines of a path are whole, and none is the title of a card.
-use Rattle.std.proofs.Common.{◌≡◌, ℕ, true, false, List, [], ◌∷◌, refl, arith}
-use Rattle.std.specs.Prelude.{◌==◌, codes, nat_lt}
-use Rattle.std.specs.List.{concat}
-use borrow.Author.Tests.{ne_eqb}
-use Rattle.xbar_equip.specs.Digits.{digit}
-use Rattle.xbar_equip.specs.Path.{path_text, line_link, junctor, trunk_link}
-use Rattle.xbar_equip.specs.declared.path.Path.{Path}
-use Rattle.xbar_office_text.specs.PathLines.{title_line, frames_line, links_line, edges_line, switch_text, switches_line, in_three, numbers_line, words_line, fields_line, values_line, path_lines}
-use Rattle.xbar_office_text.specs.Titles.{is_title}
+use Rattle.std.proofs.Common.{◌≡◌, ℕ, true, false, List, [], ◌∷◌, refl, arith, ◌==◌, codes, nat_lt, ne_eqb}
+use Rattle.{std.specs.List.concat, xbar_equip.specs.{Digits.digit, Path.{path_text, line_link, junctor, trunk_link}, declared.path.Path.Path}}
+use Rattle.{xbar_equip.specs.TextLines.IsWholeLine, xbar_office_text.specs.PathLines.{title_line, frames_line, links_line, edges_line, switch_text}}
+use Rattle.xbar_office_text.specs.{PathLines.{switches_line, in_three, numbers_line, words_line, fields_line, values_line, path_lines}, Titles.is_title}
 use Rattle.xbar_office_text.proofs.OtherLines.{IsOther, HasNoTitle, none_append, none_line, none_nothing}
 use Rattle.xbar_office_text.proofs.PlainTexts.{plain_channel, plain_choice, plain_decimal, plain_line, plain_link, plain_place}
-use Rattle.xbar_equip.specs.TextLines.{IsWholeLine}
 use Rattle.xbar_office_text.proofs.WholeLines.{lacks_feed, IsPlain, plain_append, plain_nothing, plain_with, whole_append, whole_feed, whole_with}
 
 -- a digit is no blank, with which a title begins
@@ -18,7 +12,9 @@ pub blank_unlike : (d : ℕ) → (32 == digit d) ≡ false
 blank_unlike d = ne_eqb 32 (digit d) (λ e. omega arith)
 
 plain_path : (path : Path) → IsPlain (path_text path)
-plain_path path = plain_append (plain_line path.line) (plain_with (codes "-") refl (plain_append (plain_channel path.channel) (plain_with (codes "-") refl (plain_place path.place))))
+plain_path path =
+    plain_append (plain_line path.line) (plain_with (codes "-") refl
+    (plain_append (plain_channel path.channel) (plain_with (codes "-") refl (plain_place path.place))))
 
 title_line_whole : (path : Path) (member : List ℕ) → IsPlain member → IsWholeLine (title_line path member)
 unfolding title_line
@@ -33,7 +29,8 @@ title_line_unlike path member = rw (blank_unlike path.line.frame)
 frames_line_whole : (path : Path) → IsWholeLine (frames_line path)
 unfolding frames_line
 frames_line_whole path =
-    whole_with (codes "         +-- line link frame ") refl (whole_append (plain_decimal path.line.frame) (whole_with (codes " --+         +- trunk link frame ") refl
+    whole_with (codes "         +-- line link frame ") refl
+    (whole_append (plain_decimal path.line.frame) (whole_with (codes " --+         +- trunk link frame ") refl
     (whole_append (plain_decimal path.place.frame) (whole_with (codes " --+") refl whole_feed))))
 
 frames_line_unlike : (path : Path) → is_title (frames_line path) ≡ false
@@ -43,8 +40,10 @@ frames_line_unlike path = refl
 links_line_whole : (path : Path) → IsWholeLine (links_line path)
 unfolding links_line
 links_line_whole path =
-    whole_append (plain_line path.line) (whole_with (codes " ----X-------- ") refl (whole_append (plain_link (line_link path)) (whole_with (codes " --------X--") refl
-    (whole_append (plain_link (junctor path)) (whole_with (codes "--X-------- ") refl (whole_append (plain_link (trunk_link path)) (whole_with (codes " --------X---- ") refl
+    whole_append (plain_line path.line) (whole_with (codes " ----X-------- ") refl
+    (whole_append (plain_link (line_link path)) (whole_with (codes " --------X--") refl
+    (whole_append (plain_link (junctor path)) (whole_with (codes "--X-------- ") refl
+    (whole_append (plain_link (trunk_link path)) (whole_with (codes " --------X---- ") refl
     (whole_append (plain_place path.place) whole_feed))))))))
 
 links_line_unlike : (path : Path) → is_title (links_line path) ≡ false
@@ -72,12 +71,14 @@ switches_line_other path = record {
 plain_three : (n : ℕ) → IsPlain (in_three n)
 unfolding in_three
 plain_three n =
-    plain_choice (nat_lt n 10) (plain_with (codes "  ") refl (plain_decimal n)) (plain_choice (nat_lt n 100) (plain_with (codes " ") refl (plain_decimal n)) (plain_decimal n))
+    plain_choice (nat_lt n 10) (plain_with (codes "  ") refl (plain_decimal n))
+    (plain_choice (nat_lt n 100) (plain_with (codes " ") refl (plain_decimal n)) (plain_decimal n))
 
 numbers_line_whole : (name : List ℕ) (a b c d : ℕ) → lacks_feed name ≡ true → IsWholeLine (numbers_line name (a ∷ b ∷ c ∷ d ∷ []))
 unfolding numbers_line
 numbers_line_whole name a b c d h =
-    whole_with name h (whole_append (plain_three a) (whole_with (codes "                     ") refl (whole_append (plain_three b) (whole_with (codes "       ") refl
+    whole_with name h (whole_append (plain_three a) (whole_with (codes "                     ") refl
+    (whole_append (plain_three b) (whole_with (codes "       ") refl
     (whole_append (plain_three c) (whole_with (codes "                     ") refl (whole_append (plain_three d) whole_feed)))))))
 
 word_line_unlike : (a b c d : ℕ) → is_title (numbers_line (codes "word    ") (a ∷ b ∷ c ∷ d ∷ [])) ≡ false

@@ -1,16 +1,9 @@
 -- Texts of numbers, paths, links and members have no line feed.
-use Rattle.std.proofs.Common.{◌≡◌, ℕ, zero, suc, ◌+◌, ◌/◌, ◌%◌, ◌≤◌, Bool, true, false, cond, List, [], ◌∷◌, refl, ap, arith, replicate}
-use Rattle.std.specs.Prelude.{◌==◌, not, nat_lt, decimal, flat_map}
-use Rattle.std.specs.Fmt.{digits, digits_onto, digit_glyph}
-use borrow.Author.Tests.{ne_eqb}
-use Rattle.xbar_equip.proofs.Logic.{both_hold}
-use Rattle.xbar_equip.specs.Channel.{channel_text}
-use Rattle.xbar_equip.specs.Digits.{digit}
-use Rattle.xbar_equip.specs.Len.{Line, line_text}
-use Rattle.xbar_equip.specs.Link.{Link, link_text, letters}
-use Rattle.xbar_equip.specs.Ten.{TrunkPlace, place_text}
-use Rattle.xbar_equip.specs.declared.link.LinkKind.{LinkKind}
-use Rattle.xbar_equip.specs.declared.link.LinkKind.TheVariants.{LineLink, Junctor, TrunkLink}
+use Rattle.std.proofs.Common.{◌≡◌, ℕ, zero, suc, ◌+◌, ◌/◌, ◌%◌, ◌≤◌, Bool, true, false, cond, List, [], ◌∷◌, refl, ap, arith, replicate, ◌==◌, not, nat_lt}
+use Rattle.std.proofs.Common.{decimal, flat_map, ne_eqb}
+use Rattle.{std.specs.Fmt.{digits, digits_onto, digit_glyph}, xbar_equip.proofs.Logic.both_hold}
+use Rattle.xbar_equip.specs.{Channel.channel_text, Digits.digit, Len.{Line, line_text}, Link.{Link, link_text, letters}, Ten.{TrunkPlace, place_text}}
+use Rattle.xbar_equip.specs.declared.link.LinkKind.{LinkKind, TheVariants.{LineLink, Junctor, TrunkLink}}
 use Rattle.xbar_office_text.proofs.WholeLines.{lacks_feed, IsPlain, plain_append, plain_with, plain_nothing}
 
 above_feed : (x : ℕ) → 48 ≤ x → not (x == 10) ≡ true

@@ -1,7 +1,6 @@
 -- Lists of numbers from 0 on, one number longer.
-use Rattle.std.proofs.Common.{◌≡◌, ℕ, zero, suc, ◌+◌, List, [], ◌∷◌, ◌++◌, arith, ap, ◌∙◌, append-nil}
-use Rattle.std.specs.List.{flat_map, range_with_len}
-use Rattle.std.proofs.lemmas.List.Concat.{flat_map-append}
+use Rattle.std.proofs.Common.{◌≡◌, ℕ, zero, suc, ◌+◌, List, [], ◌∷◌, ◌++◌, arith, ap, ◌∙◌, append-nil, flat_map}
+use Rattle.std.{specs.List.range_with_len, proofs.lemmas.List.Concat.flat_map-append}
 
 range_longer : (n a : ℕ) → range_with_len a (suc n) ≡ range_with_len a n ++ (a + n) ∷ []
 range_longer zero a = let e : a ≡ a + 0 = omega arith in ap (λ x. x ∷ []) e

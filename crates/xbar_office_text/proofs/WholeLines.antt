@@ -1,10 +1,6 @@
 -- Texts without a line feed, and lines that end with their only one.
-use Rattle.std.proofs.Common.{◌≡◌, ℕ, Bool, true, List, [], ◌∷◌, ◌++◌, refl, sym, ap, ◌∙◌, append_assoc}
-use Rattle.std.specs.Prelude.{◌==◌, not}
-use Rattle.std.specs.List.{list_all}
-use Rattle.std.proofs.lemmas.List.Folds.{list_all-append}
-use Rattle.xbar_equip.proofs.Logic.{both_hold}
-use Rattle.xbar_equip.specs.TextLines.{IsWholeLine}
+use Rattle.std.proofs.Common.{◌≡◌, ℕ, Bool, true, List, [], ◌∷◌, ◌++◌, refl, sym, ap, ◌∙◌, append_assoc, ◌==◌, not}
+use Rattle.{std.{specs.List.list_all, proofs.lemmas.List.Folds.list_all-append}, xbar_equip.{proofs.Logic.both_hold, specs.TextLines.IsWholeLine}}
 
 -- no byte of the text is a line feed
 abbrev pub lacks_feed : List ℕ → Bool

@@ -3,6 +3,8 @@ use Rattle.std.specs.List.{concat}
 use Rattle.xbar_equip.specs.Link.{link_text}
 use Rattle.xbar_office.specs.declared.reply.Card.{Card}
 use Rattle.xbar_office.specs.declared.reply.Record.{Record}
+use Rattle.xbar_office_text.specs.declared.card_rows.TheConstants.{SIDE}
+use Rattle.xbar_office_text.specs.declared.cards.TheConstants.{LOWER_EDGE, UPPER_EDGE}
 use Rattle.xbar_office_text.specs.CardRows.{row, link_rows}
 
 -- the title of a card: which link is faulty
@@ -20,14 +22,14 @@ job_row owner =
 -- the marker that met the link, and in which trial
 unfoldable pub trial_row : Record → Card → List ℕ
 trial_row owner card =
-    row (codes "|    ") (concat
+    row SIDE.now (concat
     (codes "marker " ∷ decimal owner.marker ∷ codes ", trial " ∷ decimal card.trial ∷ []))
 
 -- a trouble card, below an empty line
 unfoldable pub card_text : Record → Card → List ℕ
 card_text owner card =
-    concat (codes "\n   .---------------------------------------------.\n" ∷ title_row card ∷ job_row owner ∷ trial_row owner card ∷ link_rows card.link
-    ∷ codes "'------------------------------------------------'\n" ∷ [])
+    concat (UPPER_EDGE.now ∷ title_row card ∷ job_row owner ∷ trial_row owner card
+    ∷ link_rows card.link ∷ LOWER_EDGE.now ∷ [])
 
 -- the cards of a job, in the order of its trials
 unfoldable pub cards_of : Record → List ℕ

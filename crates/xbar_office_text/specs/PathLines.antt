@@ -7,6 +7,7 @@ use Rattle.xbar_equip.specs.Link.{link_text}
 use Rattle.xbar_equip.specs.Path.{path_text, line_link, junctor, trunk_link}
 use Rattle.xbar_equip.specs.Ten.{place_text}
 use Rattle.xbar_equip.specs.declared.path.Path.{Path}
+use Rattle.xbar_office_text.specs.declared.path.lines.TheConstants.{EDGES}
 
 -- the title of a path: its line, what it leads to, and its channel
 unfoldable pub title_line : Path → List ℕ → List ℕ
@@ -17,7 +18,8 @@ title_line path member =
 -- the upper edges of the two frames
 unfoldable pub frames_line : Path → List ℕ
 frames_line path =
-    concat (codes "         +-- line link frame " ∷ decimal path.line.frame ∷ codes " --+         +- trunk link frame " ∷ decimal path.place.frame ∷ codes " --+\n" ∷ [])
+    concat (codes "         +-- line link frame " ∷ decimal path.line.frame ∷ codes " --+         +- trunk link frame " ∷ decimal path.place.frame
+    ∷ codes " --+\n" ∷ [])
 
 -- the path from its line to its place: through two switches of each frame, over its three links
 unfoldable pub links_line : Path → List ℕ
@@ -27,7 +29,7 @@ links_line path =
 
 -- the lower edges of the two frames
 unfoldable pub edges_line : List ℕ
-edges_line = codes "         +-----------------------+         +-----------------------+\n"
+edges_line = EDGES.now
 
 -- a switch, by its frame and its number on the frame
 unfoldable pub switch_text : ℕ → ℕ → List ℕ

@@ -1,13 +1,16 @@
 //! The rows of a trouble card, and the link that is punched in it.
 
 ghost use Rattle.std.specs.Prelude.{◌≡◌, ◌++◌, OnOk, replicate, string_bytes};
-ghost use Rattle.xbar_office_text.specs.CardRows.{digit_row, filled, first_name as first_name_of, kind_row, link_rows, mark as mark_of, row, second_name as second_name_of, ten_places};
+ghost use Rattle.xbar_office_text.specs.CardRows.{digit_row, filled, first_name, kind_row, link_rows, mark as mark_of, row, second_name, ten_places};
 
 use std::alloc::{AllocError, Global};
 use xbar_equip::{Link, LinkKind};
 
 /// The left edge of a row below the cut corner.
-const SIDE: &str = "|    ";
+pub const SIDE: &str = "|    ";
+
+/// The digits above the places.
+const DIGITS: &str = "                   0 1 2 3 4 5 6 7 8 9";
 
 fn add_blanks(text: &mut String, count: usize) -> Result<(), AllocError>
     ensures { OnOk result (string_bytes text.new ≡ string_bytes text.old ++ replicate count 32) }
@@ -65,7 +68,8 @@ fn add_digit_row(alloc: Global, text: &mut String, name: &str, digit: u8) -> Res
     ensures { OnOk result (string_bytes text.new ≡ string_bytes text.old ++
         digit_row name.now digit) }
 {
-    let mut content = String::from_str(alloc, name)?;
+    let mut content = String::new(alloc);
+    add_filled(&mut content, 18, name)?;
     add_ten_places(&mut content, digit)?;
     add_row(text, SIDE, content.as_str())?;
     Ok(())
@@ -86,24 +90,15 @@ fn add_kind_row(alloc: Global, text: &mut String, kind: LinkKind) -> Result<(), 
     Ok(())
 }
 
-/// The name of the first digit of a link of this kind.
-fn first_name(kind: LinkKind) -> &'static str
-    ensures { result.now ≡ first_name_of kind }
+/// The names of the first two digits of a link of this kind.
+pub fn digit_names(kind: LinkKind) -> (&'static str, &'static str)
+    ensures first { result.0.now ≡ first_name kind }
+    ensures second { result.1.now ≡ second_name kind }
 {
     match kind {
-        LinkKind::LineLink | LinkKind::Junctor => "line link frame   ",
-        LinkKind::TrunkLink => "trunk link frame  ",
-    }
-}
-
-/// The name of the second digit of a link of this kind.
-fn second_name(kind: LinkKind) -> &'static str
-    ensures { result.now ≡ second_name_of kind }
-{
-    match kind {
-        LinkKind::LineLink => "line switch       ",
-        LinkKind::Junctor => "trunk link frame  ",
-        LinkKind::TrunkLink => "trunk switch      ",
+        LinkKind::LineLink => ("line link frame", "line switch"),
+        LinkKind::Junctor => ("line link frame", "trunk link frame"),
+        LinkKind::TrunkLink => ("trunk link frame", "trunk switch"),
     }
 }
 
@@ -113,10 +108,11 @@ pub fn add_link_rows(alloc: Global, text: &mut String, link: Link) -> Result<(),
     ensures { OnOk result (string_bytes text.new ≡ string_bytes text.old ++ link_rows link) }
 {
     let kind = link.kind();
+    let (first, second) = digit_names(kind);
     add_kind_row(alloc, text, kind)?;
-    add_row(text, SIDE, "                   0 1 2 3 4 5 6 7 8 9")?;
-    add_digit_row(alloc, text, first_name(kind), link.frame())?;
-    add_digit_row(alloc, text, second_name(kind), link.at())?;
-    add_digit_row(alloc, text, "channel           ", link.channel())?;
+    add_row(text, SIDE, DIGITS)?;
+    add_digit_row(alloc, text, first, link.frame())?;
+    add_digit_row(alloc, text, second, link.at())?;
+    add_digit_row(alloc, text, "channel", link.channel())?;
     Ok(())
 }

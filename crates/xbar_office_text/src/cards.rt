@@ -3,9 +3,14 @@
 ghost use Rattle.std.specs.Prelude.{◌≡◌, ◌++◌, OnOk, flat_map, string_bytes};
 ghost use Rattle.xbar_office_text.specs.Cards.{card_text, cards_of, job_row, title_row, trial_row};
 
-use crate::card_rows::{add_link_rows, add_row};
+use crate::card_rows::{SIDE, add_link_rows, add_row};
 use std::alloc::{AllocError, Global};
 use xbar_office::{Card, Record};
+
+/// The upper edge of a card, below an empty line.
+const UPPER_EDGE: &str = "\n   .---------------------------------------------.\n";
+
+const LOWER_EDGE: &str = "'------------------------------------------------'\n";
 
 /// Adds the cards of all jobs, in the order of the records.
 pub fn add_cards(alloc: Global, text: &mut String, records: &[Record]) -> Result<(), AllocError>
@@ -33,12 +38,12 @@ fn add_card(alloc: Global, text: &mut String, owner: &Record, card: &Card) -> Re
     ensures { OnOk result (string_bytes text.new ≡ string_bytes text.old ++
         card_text owner.now card.now) }
 {
-    text.push_str("\n   .---------------------------------------------.\n")?;
+    text.push_str(UPPER_EDGE)?;
     add_title_row(alloc, text, card)?;
     add_job_row(alloc, text, owner)?;
     add_trial_row(alloc, text, owner, card)?;
     add_link_rows(alloc, text, card.link)?;
-    text.push_str("'------------------------------------------------'\n")?;
+    text.push_str(LOWER_EDGE)?;
     Ok(())
 }
 
@@ -71,6 +76,6 @@ fn add_trial_row(
         trial_row owner.now card.now) }
 {
     let content = format!(in alloc; "marker {}, trial {}", owner.marker, card.trial)?;
-    add_row(text, "|    ", content.as_str())?;
+    add_row(text, SIDE, content.as_str())?;
     Ok(())
 }

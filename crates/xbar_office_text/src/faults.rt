@@ -68,23 +68,16 @@ fn add_fault_lines(text: &mut String, links: &[Link]) -> Result<(), AllocError>
     Ok(())
 }
 
+#[tactic(auto, unfolding(crate::specs::Faults::fault_line))]
 fn add_each_line(text: &mut String, links: &[Link]) -> Result<(), AllocError>
     ensures { OnOk result (string_bytes text.new ≡ string_bytes text.old ++
         flat_map fault_line links.now) }
 {
     for link in links {
-        add_fault_line(text, *link)?;
+        let channel = link.channel();
+        let place = Whereabouts(*link);
+        writeln!(text, "{link}: channel {channel}, {place}")?;
     }
-    Ok(())
-}
-
-#[tactic(auto, unfolding(crate::specs::Faults::fault_line))]
-fn add_fault_line(text: &mut String, link: Link) -> Result<(), AllocError>
-    ensures { OnOk result (string_bytes text.new ≡ string_bytes text.old ++ fault_line link) }
-{
-    let channel = link.channel();
-    let place = Whereabouts(link);
-    writeln!(text, "{link}: channel {channel}, {place}")?;
     Ok(())
 }
 

@@ -2,6 +2,7 @@
 //! and the trouble cards.
 #![tactic(auto)]
 
+pub use card_rows::digit_names;
 pub use ends::{PathMember, ends_at_register, path_end};
 pub use path::add_path_lines;
 pub use text::office_text;

@@ -1,12 +1,7 @@
 -- Which section is at which index.
-use Rattle.std.proofs.Common.{◌≡◌, ℕ, zero, suc, ◌+◌, List, [], ◌∷◌, length, take, refl, sym, ap, add-one}
-use Rattle.std.specs.Prelude.{Option, Some, slice_get}
-use Rattle.xbar_equip.specs.declared.path.Path.{Path}
-use Rattle.xbar_office.specs.Legal.{after_jobs, jobs_of}
-use Rattle.xbar_office.specs.Whole.{whole}
-use Rattle.xbar_office.specs.declared.reply.Record.{Record}
-use Rattle.xbar_plan.specs.Tables.{Tables}
-use Rattle.xbar_page.specs.Sections.{Section, sections_from, turn_at}
+use Rattle.std.proofs.Common.{◌≡◌, ℕ, zero, suc, ◌+◌, List, [], ◌∷◌, length, take, refl, sym, ap, add-one, Option, Some, slice_get}
+use Rattle.{xbar_equip.specs.declared.path.Path.Path, xbar_office.specs.{Legal.{after_jobs, jobs_of}, Whole.whole, declared.reply.Record.Record}}
+use Rattle.{xbar_plan.specs.Tables.Tables, xbar_page.specs.Sections.{Section, sections_from, turn_at}}
 
 module _ (plan : Tables) where
   pub length-sections : (paths : List Path) (before : Option ℕ) (records : List Record) → length (sections_from plan paths before records) ≡ length records

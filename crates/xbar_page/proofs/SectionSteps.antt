@@ -1,15 +1,9 @@
 -- The sections of the records that are left: one more is done, and none is left.
 use Rattle.std.proofs.Common.{◌≡◌, ℕ, zero, suc, ◌+◌, ◌<◌, ◌≤◌, List, [], ◌∷◌, ◌++◌, drop, length, slice_index_or, refl, sym, ap, ◌∙◌, append_assoc, append-nil}
-use Rattle.std.specs.Prelude.{Option, Some, flat_map}
-use Rattle.std.proofs.lemmas.List.{at_drop_all, at_drop_more}
-use Rattle.xbar_equip.specs.declared.path.Path.{Path}
-use Rattle.xbar_office.specs.Whole.{whole}
-use Rattle.xbar_office.specs.declared.reply.Record.{Record}
-use Rattle.xbar_plan.specs.Tables.{Tables}
-use Rattle.xbar_page.specs.Section.{section_text}
-use Rattle.xbar_page.specs.Sections.{Section, sections_from, turn_at}
-use Rattle.xbar_page.specs.Stays.{sets_of}
-use Rattle.xbar_page.specs.declared.links.Links.{Links}
+use Rattle.std.proofs.Common.{Option, Some, flat_map}
+use Rattle.{std.proofs.lemmas.List.{at_drop_all, at_drop_more}, xbar_equip.specs.declared.path.Path.Path}
+use Rattle.{xbar_office.specs.{Whole.whole, declared.reply.Record.Record}, xbar_plan.specs.Tables.Tables}
+use Rattle.xbar_page.specs.{Section.section_text, Sections.{Section, sections_from, turn_at}, Stays.sets_of, declared.links.Links.Links}
 
 turn_dropped : (records : List Record) (place : ℕ) → turn_at records place ≡ turn_at (drop place records) 0
 turn_dropped records zero = refl
@@ -34,16 +28,26 @@ module _ (plan : Tables) (before : Option ℕ) (records : List Record) (place : 
   with_sections left = text ++ flat_map (section_text plan) (sections_from plan [] before left)
 
   pub next_section : (owner : Record) → owner ≡ slice_index_or records place owner → place < length records
-      → (text ++ section_text plan (record { owner = owner; paths = (whole plan [] owner.job).paths; links = record { before = before; after = turn_at records (place + 1) } }))
+      → (text
+      ++ section_text plan (record {
+        owner = owner;
+        paths = (whole plan [] owner.job).paths;
+        links = record { before = before; after = turn_at records (place + 1) };
+      }))
       ++ flat_map (section_text plan) (sections_from plan [] (Some owner.turn) (drop (place + 1) records))
       ≡ text ++ flat_map (section_text plan) (sections_from plan [] before (drop place records))
   unfolding with_sections
   next_section owner is below =
       let now = (whole plan [] owner.job).paths in
       let later = flat_map (section_text plan) (sections_from plan [] (Some owner.turn) (drop (place + 1) records)) in
-      append_assoc text (section_text plan (record { owner = owner; paths = now; links = record { before = before; after = turn_at records (place + 1) } })) later
-      ∙ ap (λ (after : Option ℕ). text ++ (section_text plan (record { owner = owner; paths = now; links = record { before = before; after = after } }) ++ later)) (turn_dropped records (place + 1))
-      ∙ ap (λ (t : List ℕ). text ++ (section_text plan (record { owner = owner; paths = now; links = record { before = before; after = turn_at (drop (place + 1) records) 0 } }) ++ t)) (same_sections plan [] now (Some owner.turn) (drop (place + 1) records))
+      append_assoc text (section_text plan (record { owner = owner; paths = now; links = record { before = before; after = turn_at records (place + 1) } }))
+      later
+      ∙ ap (λ (after : Option ℕ). text
+      ++ (section_text plan (record { owner = owner; paths = now; links = record { before = before; after = after } }) ++ later))
+      (turn_dropped records (place + 1))
+      ∙ ap (λ (t : List ℕ). text
+      ++ (section_text plan (record { owner = owner; paths = now; links = record { before = before; after = turn_at (drop (place + 1) records) 0 } }) ++ t))
+      (same_sections plan [] now (Some owner.turn) (drop (place + 1) records))
       ∙ ap (λ (e : Record). with_sections (e ∷ drop (place + 1) records)) is
       ∙ sym (at_drop_more with_sections records place owner below)
 
@@ -52,7 +56,8 @@ module _ (plan : Tables) (before : Option ℕ) (records : List Record) (place : 
   no_section over = sym (append-nil text) ∙ sym (at_drop_all with_sections records place over)
 
 -- which turn comes before the sections changes none of their sets
-pub same_sets : (plan : Tables) (paths : List Path) (before other : Option ℕ) (records : List Record) → sets_of (sections_from plan paths before records) ≡ sets_of (sections_from plan paths other records)
+pub same_sets : (plan : Tables) (paths : List Path) (before other : Option ℕ) (records : List Record)
+    → sets_of (sections_from plan paths before records) ≡ sets_of (sections_from plan paths other records)
 same_sets plan paths before other [] = refl
 same_sets plan paths before other (owner ∷ more) = refl
 

@@ -1,13 +1,7 @@
 -- The paths that stand after a turn, by the sets after all turns and by the stays.
-use Rattle.std.proofs.Common.{◌≡◌, ℕ, zero, suc, ◌+◌, ◌<◌, ◌≤◌, List, [], ◌∷◌, ◌++◌, Bool, true, false, map, take, refl, sym, ap, ◌∙◌, arith}
-use Rattle.std.specs.Prelude.{◌&&◌, ◌||◌, Option, Some, None, filter, nat_le, nat_lt, not, slice_get}
-use Rattle.std.specs.List.{list_all, list_any}
-use Rattle.std.proofs.lemmas.List.{map-append}
-use Rattle.std.proofs.lemmas.List.Elements.{filter-append}
-use Rattle.std.proofs.lemmas.List.Folds.{list_any-append}
-use Rattle.xbar_equip.specs.declared.path.Path.{Path}
-use Rattle.xbar_page.specs.Stays.{has_path, is_before, is_same, standing, stands_after, stay_from, stays_from, until}
-use Rattle.xbar_page.specs.declared.stays.Stay.{Stay}
+use Rattle.std.proofs.Common.{◌≡◌, ℕ, ◌+◌, ◌<◌, ◌≤◌, List, [], ◌∷◌, ◌++◌, Bool, true, false, map, refl, ap, ◌∙◌, arith, ◌&&◌, ◌||◌, filter, nat_le, nat_lt, not}
+use Rattle.{std.proofs.lemmas.List.{map-append, Elements.filter-append}, xbar_equip.specs.declared.path.Path.Path}
+use Rattle.xbar_page.specs.{Stays.{has_path, standing, stands_after, stay_from, stays_from}, declared.stays.Stay.Stay}
 
 -- ---- tests
 
@@ -56,7 +50,8 @@ shown_by t turn later q qs true is same = rw is (ap (λ (paths : List Path). q �
 shown_by t turn later q qs false is same = rw is same
 
 -- the paths that stand, of those that a turn brings
-pub shown : (t turn : ℕ) (later : List (List Path)) (qs : List Path) → standing t (map (stay_from turn later) qs) ≡ filter (λ path. stands_after t (stay_from turn later path)) qs
+pub shown : (t turn : ℕ) (later : List (List Path)) (qs : List Path)
+    → standing t (map (stay_from turn later) qs) ≡ filter (λ path. stands_after t (stay_from turn later path)) qs
 shown t turn later [] = refl
 shown t turn later (q ∷ qs) = shown_by t turn later q qs (stands_after t (stay_from turn later q)) refl (shown t turn later qs)
 

@@ -1,15 +1,9 @@
 -- Whether one path stands after a turn, by the sets after all turns and by the stays.
-use Rattle.std.proofs.Common.{◌≡◌, ℕ, zero, suc, ◌+◌, ◌<◌, ◌≤◌, List, [], ◌∷◌, ◌++◌, Bool, true, false, map, take, refl, sym, ap, ◌∙◌, arith}
-use Rattle.std.specs.Prelude.{◌&&◌, ◌||◌, Option, Some, None, filter, nat_le, nat_lt, not, slice_get}
-use Rattle.std.specs.List.{list_all, list_any}
-use Rattle.std.proofs.lemmas.List.Folds.{list_any-append}
-use Rattle.std.specs.Prelude.{◌==◌}
-use Rattle.xbar_equip.specs.Len.{line_eq}
-use Rattle.xbar_equip.specs.Ten.{place_eq}
+use Rattle.std.proofs.Common.{◌≡◌, ℕ, zero, suc, ◌+◌, ◌<◌, List, [], ◌∷◌, Bool, true, false, map, take, refl, ap, ◌∙◌, arith, ◌&&◌, ◌||◌, Some, filter, not}
+use Rattle.std.proofs.Common.{slice_get, ◌==◌}
+use Rattle.{std.{specs.List.list_all, proofs.lemmas.List.Folds.list_any-append}, xbar_equip.specs.{Len.line_eq, Ten.place_eq, declared.path.Path.Path}}
 use Rattle.xbar_equip.proofs.PathTests.{line_eq-exact, place_eq-exact}
-use Rattle.xbar_equip.specs.declared.path.Path.{Path}
 use Rattle.xbar_page.specs.Stays.{has_path, is_before, is_same, standing, stands_after, stay_from, stays_from, until}
-use Rattle.xbar_page.specs.declared.stays.Stay.{Stay}
 use Rattle.xbar_page.proofs.Standing.{begun, ended, first_turn, later_turn, none_before, not_ended, shown, standing-append}
 
 pub and_true : (b : Bool) → (b && true) ≡ b
@@ -47,7 +41,8 @@ module _ (p : Path) where
   kept_by : (test : Path → Bool) (q : Path) (qs : List Path) (b s : Bool) → test q ≡ b → is_same p q ≡ s
       → has_path p (filter test qs) ≡ (has_path p qs && test p) → has_path p (filter test (q ∷ qs)) ≡ (has_path p (q ∷ qs) && test p)
   kept_by test q qs true true tested same rest = let own : test p ≡ true = ap test (same_is q same) ∙ tested in rw (tested, same, own) refl
-  kept_by test q qs false true tested same rest = let own : test p ≡ false = ap test (same_is q same) ∙ tested in rw (tested, same, own) (rest ∙ rw own (none_of (has_path p qs)))
+  kept_by test q qs false true tested same rest = let own : test p ≡ false = ap test (same_is q same) ∙ tested in
+      rw (tested, same, own) (rest ∙ rw own (none_of (has_path p qs)))
   kept_by test q qs true false tested same rest = rw (tested, same) rest
   kept_by test q qs false false tested same rest = rw (tested, same) rest
 
@@ -57,7 +52,8 @@ module _ (p : Path) where
 
   -- ---- the end of a stay
 
-  early_by : (t turn : ℕ) (later : List (List Path)) (b : Bool) (set : List Path) → has_path p set ≡ b → t < turn → is_before t (until (turn + 1) p later) ≡ true → is_before t (until turn p (set ∷ later)) ≡ true
+  early_by : (t turn : ℕ) (later : List (List Path)) (b : Bool) (set : List Path) → has_path p set ≡ b → t < turn
+      → is_before t (until (turn + 1) p later) ≡ true → is_before t (until turn p (set ∷ later)) ≡ true
   unfolding until
   early_by t turn later true set has early rest = rw has rest
   early_by t turn later false set has early rest = rw has (not_ended t turn early)
@@ -95,16 +91,19 @@ module _ (p : Path) where
       ap (has_path p) (shown (turn + k) turn later (filter new now)) ∙ kept stands (filter new now) ∙ ap (λ (b : Bool). b && stands p) (kept new now)
       ∙ ap (λ (b : Bool). (has_path p now && new p) && b) own
 
-  one_more : (j : ℕ) (sets : List (List Path)) (set : List Path) → slice_get sets j ≡ Some set → list_all (has_path p) (take (suc j) sets) ≡ (list_all (has_path p) (take j sets) && has_path p set)
+  one_more : (j : ℕ) (sets : List (List Path)) (set : List Path) → slice_get sets j ≡ Some set
+      → list_all (has_path p) (take (suc j) sets) ≡ (list_all (has_path p) (take j sets) && has_path p set)
   one_more j [] set is = absurd cc
   one_more zero (now ∷ later) set is = let same : now ≡ set = cc in rw same (and_true (has_path p set))
-  one_more (suc j) (now ∷ later) set is = ap (λ (b : Bool). has_path p now && b) (one_more j later set is) ∙ and_assoc (has_path p now) (list_all (has_path p) (take j later)) (has_path p set)
+  one_more (suc j) (now ∷ later) set is =
+      ap (λ (b : Bool). has_path p now && b) (one_more j later set is) ∙ and_assoc (has_path p now) (list_all (has_path p) (take j later)) (has_path p set)
 
   -- ---- all of it
 
   either : (k turn : ℕ) (before now : List Path) (later : List (List Path))
       → has_path p (standing (turn + k) (stays_from turn before (now ∷ later)))
-      ≡ (((has_path p now && not (has_path p before)) && list_all (has_path p) (take k later)) || has_path p (standing (turn + k) (stays_from (turn + 1) now later)))
+      ≡ (((has_path p now && not (has_path p before)) && list_all (has_path p) (take k later))
+      || has_path p (standing (turn + k) (stays_from (turn + 1) now later)))
   unfolding stays_from
   either k turn before now later =
       let brought_now = map (stay_from turn later) (filter (λ path. not (has_path path before)) now) in
@@ -123,6 +122,7 @@ module _ (p : Path) where
       either zero turn before now later ∙ rw (none, same) (first_turn (has_path p set) (has_path p before))
   tells (suc j) turn before (now ∷ later) set is =
       let moved : turn + suc j ≡ turn + 1 + j = omega arith in
-      let rest : has_path p (standing (turn + suc j) (stays_from (turn + 1) now later)) ≡ (has_path p set && not (has_path p now && list_all (has_path p) (take j later))) = rw moved (tells j (turn + 1) now later set is) in
+      let rest : has_path p (standing (turn + suc j) (stays_from (turn + 1) now later))
+      ≡ (has_path p set && not (has_path p now && list_all (has_path p) (take j later))) = rw moved (tells j (turn + 1) now later set is) in
       either (suc j) turn before now later ∙ rw (rest, one_more j later set is)
       (later_turn (has_path p now) (has_path p before) (list_all (has_path p) (take j later)) (has_path p set))

@@ -33,7 +33,7 @@ pub fn add_picture(
         picture_text plan.now stays.now) }
 {
     text.push_str(HEAD)?;
-    add_shapes(alloc, text)?;
+    add_shapes(text)?;
     text.push_str("<text x=\"16\" y=\"30\" class=\"big\" id=\"count\">")?;
     add_count(text, last_count(stays))?;
     text.push_str("</text>\n")?;

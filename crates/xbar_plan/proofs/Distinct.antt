@@ -1,11 +1,7 @@
-use Rattle.std.proofs.Common.{◌≡◌, ℕ, zero, suc, Bool, true, false, List, [], ◌∷◌, ◌++◌, inl, inr, refl, sym, ◌∙◌, ap, subst}
-use Rattle.std.specs.Prelude.{Some, slice_get, flat_map, not, ◌||◌}
-use Rattle.std.specs.List.{list_any, list_all}
-use Rattle.std.proofs.lemmas.List.Folds.{list_any-append}
-use Rattle.xbar_equip.specs.Among.{IsIn}
-use Rattle.xbar_equip.proofs.Logic.{both, both_hold, not_both}
-use Rattle.xbar_equip.proofs.Lists.{in_back, in_flat_map, item_in, each_passes, any_passes}
-use Rattle.xbar_plan.specs.Lawful.{are_distinct}
+use Rattle.std.proofs.Common.{◌≡◌, ℕ, zero, suc, Bool, true, false, List, [], ◌∷◌, ◌++◌, inl, inr, refl, sym, ◌∙◌, ap, subst, Some, slice_get, flat_map, not}
+use Rattle.std.proofs.Common.{◌||◌}
+use Rattle.{std.{specs.List.{list_any, list_all}, proofs.lemmas.List.Folds.list_any-append}, xbar_equip.{specs.Among.IsIn, proofs.Logic.{both, both_hold}}}
+use Rattle.{xbar_equip.proofs.{Logic.not_both, Lists.{in_back, in_flat_map, item_in, each_passes, any_passes}}, xbar_plan.specs.Lawful.are_distinct}
 
 -- what all items pass each passes
 pub item_passes : {X : Type 0} (p : X → Bool) (xs : List X) (i : ℕ) (x : X) → list_all p xs ≡ true → slice_get xs i ≡ Some x → p x ≡ true
@@ -51,14 +47,16 @@ module _ {X : Type 0} (same : X → X → Bool) (itself : (x : X) → same x x �
       distinct-apart x xs ys (both (not (list_any (λ other. same other a) (xs ++ ys))) (are_distinct same (xs ++ ys)) e).1 h k
 
   -- what f gives for one item is distinct if what it gives for all is
-  pub distinct-at : {A : Type 0} (f : A → List X) (items : List A) (i : ℕ) (a : A) → are_distinct same (flat_map f items) ≡ true → slice_get items i ≡ Some a → are_distinct same (f a) ≡ true
+  pub distinct-at : {A : Type 0} (f : A → List X) (items : List A) (i : ℕ) (a : A) → are_distinct same (flat_map f items) ≡ true → slice_get items i ≡ Some a
+      → are_distinct same (f a) ≡ true
   distinct-at f [] i a e at = cc
   distinct-at f (b ∷ items) zero a e at =
       subst (λ (z : _). are_distinct same (f z) ≡ true) (same_some b a at) (distinct-left (f b) (flat_map f items) e)
   distinct-at f (b ∷ items) (suc i) a e at = distinct-at f items i a (distinct-right (f b) (flat_map f items) e) at
 
   -- two items for which f gives the same thing are the same item
-  pub one_giver : {A : Type 0} (f : A → List X) (items : List A) (i j : ℕ) (a b : A) (x : X) → are_distinct same (flat_map f items) ≡ true → slice_get items i ≡ Some a → slice_get items j ≡ Some b → IsIn x (f a) → IsIn x (f b) → i ≡ j
+  pub one_giver : {A : Type 0} (f : A → List X) (items : List A) (i j : ℕ) (a b : A) (x : X) → are_distinct same (flat_map f items) ≡ true
+      → slice_get items i ≡ Some a → slice_get items j ≡ Some b → IsIn x (f a) → IsIn x (f b) → i ≡ j
   one_giver f [] i j a b x e at bt h k = cc
   one_giver f (c ∷ items) zero zero a b x e at bt h k = refl
   one_giver f (c ∷ items) zero (suc j) a b x e at bt h k =

@@ -1,13 +1,9 @@
-use Rattle.std.proofs.Common.{◌≡◌, Bool, true, false, List, [], ◌∷◌, length, refl}
-use Rattle.std.specs.Prelude.{◌&&◌, nat_le, nat_lt, None}
-use Rattle.std.specs.List.{list_all}
-use Rattle.xbar_equip.specs.Len.{is_line}
-use Rattle.xbar_equip.specs.Ten.{is_trunk_place}
-use Rattle.xbar_equip.specs.Link.{is_link}
-use Rattle.xbar_equip.proofs.Logic.{both}
-use Rattle.xbar_plan.specs.Tables.{Tables}
-use Rattle.xbar_plan.specs.Lawful.{IsLawful, fault_in, first_failed, tests, is_between, is_well_formed_group, are_in_range, are_well_formed, are_groups_within_limits, are_stations_within_limits, are_routes_within_limits, are_within_limits, are_names_distinct, has_one_register_group, are_places_distinct, are_pairs_on_one_frame, are_numbers_distinct, are_codes_distinct, are_groups_known, do_routes_lead_to_trunks, all_places}
-use Rattle.xbar_plan.specs.declared.fault.PlanFault.{PlanFault}
+use Rattle.std.proofs.Common.{◌≡◌, Bool, true, false, List, [], ◌∷◌, length, refl, ◌&&◌, nat_le, nat_lt, None}
+use Rattle.{std.specs.List.list_all, xbar_equip.{specs.{Len.is_line, Ten.is_trunk_place, Link.is_link}, proofs.Logic.both}}
+use Rattle.xbar_plan.specs.{Tables.Tables, Lawful.{IsLawful, fault_in, first_failed, tests, is_between, is_well_formed_group, are_in_range, are_well_formed}}
+use Rattle.xbar_plan.specs.Lawful.{are_groups_within_limits, are_stations_within_limits, are_routes_within_limits, are_within_limits, are_names_distinct}
+use Rattle.xbar_plan.specs.Lawful.{has_one_register_group, are_places_distinct, are_pairs_on_one_frame, are_numbers_distinct, are_codes_distinct}
+use Rattle.xbar_plan.specs.{Lawful.{are_groups_known, do_routes_lead_to_trunks, all_places}, declared.fault.PlanFault.PlanFault}
 
 -- if no test of a list fails, all pass
 none_failed : (ts : List (Bool × PlanFault)) → first_failed ts ≡ None → list_all (λ t. t.0) ts ≡ true

@@ -1,25 +1,11 @@
-use Rattle.std.proofs.Common.{◌≡◌, ◌≢◌, ℕ, ◌<◌, ◌≤◌, Bool, true, false, length, inl, refl, sym, ◌∙◌, ap, subst, arith}
-use Rattle.std.specs.Prelude.{Option, Some, None, slice_get, ◌==◌, option_and_then, option_to_list, is_some}
-use Rattle.std.specs.Option.{option_map_or}
-use Rattle.std.specs.Bool.{beq}
-use Rattle.std.specs.List.{list_all}
-use Rattle.std.proofs.lemmas.Option.{slice_get_within}
-use Rattle.std.proofs.lemmas.Bool.{leb-true}
-use borrow.Author.Tests.{eqb-true}
-use Rattle.xbar_equip.specs.Ten.{TrunkPlace, IsTrunkPlace, is_trunk_place, place_eq}
-use Rattle.xbar_equip.proofs.PathTests.{place_eq-exact}
-use Rattle.xbar_plan.specs.Group.{TrunkGroup, places, stands_at, is_intra, is_register}
-use Rattle.xbar_plan.specs.Tables.{Tables, member_at}
-use Rattle.xbar_plan.specs.Lawful.{IsLawful, is_between, group_places, all_places, is_name, has_its_places, is_well_formed_group, is_on_one_frame}
-use Rattle.xbar_plan.specs.declared.group.Member.{Member}
-use Rattle.xbar_equip.proofs.Ranges.{place_in_range}
-use Rattle.xbar_equip.proofs.Logic.{both}
-use Rattle.xbar_equip.proofs.Lists.{each_passes, any_passes, any_is_in}
-use Rattle.xbar_plan.proofs.Ranges.{between}
-use Rattle.xbar_equip.specs.Among.{IsIn}
-use Rattle.xbar_plan.proofs.Distinct.{at_flat_map, item_passes, distinct-at, not_again, one_giver}
-use Rattle.xbar_plan.proofs.Lookups.{position-one}
-use Rattle.xbar_plan.proofs.LawfulParts.{passes, formed, within}
+use Rattle.std.proofs.Common.{◌≡◌, ◌≢◌, ℕ, ◌<◌, ◌≤◌, Bool, true, false, length, inl, refl, sym, ◌∙◌, ap, subst, arith, Option, Some, None, slice_get, ◌==◌}
+use Rattle.std.proofs.Common.{option_and_then, option_to_list, is_some, leb-true, eqb-true}
+use Rattle.std.{specs.{Option.option_map_or, Bool.beq, List.list_all}, proofs.lemmas.Option.slice_get_within}
+use Rattle.xbar_equip.{specs.{Ten.{TrunkPlace, IsTrunkPlace, is_trunk_place, place_eq}, Among.IsIn}, proofs.{PathTests.place_eq-exact, Ranges.place_in_range}}
+use Rattle.{xbar_equip.proofs.{Logic.both, Lists.{each_passes, any_passes, any_is_in}}, xbar_plan.specs.Group.{TrunkGroup, places, stands_at, is_intra}}
+use Rattle.xbar_plan.specs.{Group.is_register, Tables.{Tables, member_at}, Lawful.{IsLawful, is_between, group_places, all_places, is_name, has_its_places}}
+use Rattle.xbar_plan.{specs.{Lawful.{is_well_formed_group, is_on_one_frame}, declared.group.Member.Member}, proofs.Ranges.between}
+use Rattle.xbar_plan.proofs.{Distinct.{at_flat_map, item_passes, distinct-at, not_again, one_giver}, Lookups.position-one, LawfulParts.{passes, formed, within}}
 
 -- the test finds a place equal to itself
 pub place_eq-itself : (place : TrunkPlace) → place_eq place place ≡ true
@@ -41,29 +27,37 @@ pub record IsMemberOf (plan : Tables) (number index : ℕ) (member : Member) : T
 
 pub member_at-group : (plan : Tables) (number index : ℕ) (member : Member) → member_at plan number index ≡ Some member → IsMemberOf plan number index member
 member_at-group plan number index member e = of (slice_get plan.groups number) refl e where
-  of : (o : Option TrunkGroup) → slice_get plan.groups number ≡ o → option_and_then (λ found. slice_get found.members index) o ≡ Some member → IsMemberOf plan number index member
+  of : (o : Option TrunkGroup) → slice_get plan.groups number ≡ o → option_and_then (λ found. slice_get found.members index) o ≡ Some member
+      → IsMemberOf plan number index member
   of None is e = cc
   of (Some group) is e = record { group = group; group_is = is; member_is = e }
 
 -- its places are places of the plan
-pub member-places : (plan : Tables) (number index : ℕ) (member : Member) (place : TrunkPlace) → member_at plan number index ≡ Some member → IsIn place (places member) → IsIn place (all_places plan.groups)
+pub member-places : (plan : Tables) (number index : ℕ) (member : Member) (place : TrunkPlace) → member_at plan number index ≡ Some member
+    → IsIn place (places member) → IsIn place (all_places plan.groups)
 member-places plan number index member place e h =
     let of = member_at-group plan number index member e in
     at_flat_map group_places plan.groups number of.group place of.group_is (at_flat_map places of.group.members index member place of.member_is h)
 
 -- and in range
-pub place_at-range : (plan : Tables) → IsLawful plan → (number index : ℕ) (member : Member) (place : TrunkPlace) → member_at plan number index ≡ Some member → IsIn place (places member) → IsTrunkPlace place
+pub place_at-range : (plan : Tables) → IsLawful plan → (number index : ℕ) (member : Member) (place : TrunkPlace) → member_at plan number index ≡ Some member
+    → IsIn place (places member) → IsTrunkPlace place
 place_at-range plan lawful number index member place e h =
-    place_in_range place (each_passes is_trunk_place (all_places plan.groups) place (formed plan lawful).places (member-places plan number index member place e h))
+    place_in_range place (each_passes is_trunk_place (all_places plan.groups) place (formed plan lawful).places
+    (member-places plan number index member place e h))
 
 -- two members at the same place are the same
-pub one_member : (plan : Tables) → IsLawful plan → (number index number' index' : ℕ) (member member' : Member) (place : TrunkPlace) → member_at plan number index ≡ Some member → member_at plan number' index' ≡ Some member' → IsIn place (places member) → IsIn place (places member') → (number ≡ number') × (index ≡ index')
+pub one_member : (plan : Tables) → IsLawful plan → (number index number' index' : ℕ) (member member' : Member) (place : TrunkPlace)
+    → member_at plan number index ≡ Some member → member_at plan number' index' ≡ Some member' → IsIn place (places member) → IsIn place (places member')
+    → (number ≡ number') × (index ≡ index')
 one_member plan lawful number index number' index' member member' place e e' h h' =
     let of = member_at-group plan number index member e in
     let of' = member_at-group plan number' index' member' e' in
     let in_group = at_flat_map places of.group.members index member place of.member_is h in
     let in_group' = at_flat_map places of'.group.members index' member' place of'.member_is h' in
-    let same : number ≡ number' = one_giver place_eq place_eq-itself group_places plan.groups number number' of.group of'.group place (passes plan lawful).places_once of.group_is of'.group_is in_group in_group' in
+    let same : number ≡ number' =
+    one_giver place_eq place_eq-itself group_places plan.groups number number' of.group of'.group place (passes plan lawful).places_once of.group_is
+    of'.group_is in_group in_group' in
     let group : Some of.group ≡ Some of'.group = sym of.group_is ∙ ap (slice_get plan.groups) same ∙ of'.group_is in
     let groups : of.group ≡ of'.group = cc in
     let here : slice_get of.group.members index' ≡ Some member' = ap (λ (g : TrunkGroup). slice_get g.members index') groups ∙ of'.member_is in
@@ -78,14 +72,16 @@ group_count-range plan lawful =
     (omega (arith, there), leb-true (length plan.groups) 16 (within plan lawful).groups)
 
 -- each with one to forty members
-pub member_count-range : (plan : Tables) → IsLawful plan → (number : ℕ) (group : TrunkGroup) → slice_get plan.groups number ≡ Some group → (0 < length group.members) × (length group.members ≤ 40)
+pub member_count-range : (plan : Tables) → IsLawful plan → (number : ℕ) (group : TrunkGroup) → slice_get plan.groups number ≡ Some group
+    → (0 < length group.members) × (length group.members ≤ 40)
 member_count-range plan lawful number group here =
     let size = item_passes (λ (g : TrunkGroup). is_between 1 40 (length g.members)) plan.groups number group (within plan lawful).members here in
     let h = between 1 40 (length group.members) size in
     (omega (arith, h.0), h.1)
 
 -- so the number of a member's group is below sixteen, and its index below forty
-pub member-numbers : (plan : Tables) → IsLawful plan → (number index : ℕ) (member : Member) → member_at plan number index ≡ Some member → (number < 16) × (index < 40)
+pub member-numbers : (plan : Tables) → IsLawful plan → (number index : ℕ) (member : Member) → member_at plan number index ≡ Some member
+    → (number < 16) × (index < 40)
 member-numbers plan lawful number index member here =
     let of = member_at-group plan number index member here in
     let groups = group_count-range plan lawful in
@@ -95,7 +91,8 @@ member-numbers plan lawful number index member here =
     (omega (arith, groups.1, within), omega (arith, members.1, within'))
 
 -- two places for an intra member, and only there
-pub member-paired : (plan : Tables) → IsLawful plan → (number index : ℕ) (group : TrunkGroup) (member : Member) → slice_get plan.groups number ≡ Some group → member_at plan number index ≡ Some member → is_some member.second ≡ is_intra group
+pub member-paired : (plan : Tables) → IsLawful plan → (number index : ℕ) (group : TrunkGroup) (member : Member) → slice_get plan.groups number ≡ Some group
+    → member_at plan number index ≡ Some member → is_some member.second ≡ is_intra group
 member-paired plan lawful number index group member there here =
     let of = member_at-group plan number index member here in
     let groups : Some of.group ≡ Some group = sym of.group_is ∙ there in
@@ -111,7 +108,8 @@ member-paired plan lawful number index group member there here =
       beq-same false true e = cc
 
 -- the two places of a pair are on one trunk link frame
-pub pair-frame : (plan : Tables) → IsLawful plan → (number index : ℕ) (member : Member) (second : TrunkPlace) → member_at plan number index ≡ Some member → member.second ≡ Some second → second.frame ≡ member.first.frame
+pub pair-frame : (plan : Tables) → IsLawful plan → (number index : ℕ) (member : Member) (second : TrunkPlace) → member_at plan number index ≡ Some member
+    → member.second ≡ Some second → second.frame ≡ member.first.frame
 pair-frame plan lawful number index member second here paired =
     let of = member_at-group plan number index member here in
     let all = item_passes (λ (g : TrunkGroup). list_all is_on_one_frame g.members) plan.groups number of.group (passes plan lawful).frames of.group_is in
@@ -120,7 +118,8 @@ pair-frame plan lawful number index member second here paired =
     (sym (ap (λ (o : Option TrunkPlace). option_map_or (λ place. place.frame == member.first.frame) o true) paired) ∙ one)
 
 -- and they differ
-pub pair-apart : (plan : Tables) → IsLawful plan → (number index : ℕ) (member : Member) (second : TrunkPlace) → member_at plan number index ≡ Some member → member.second ≡ Some second → second ≢ member.first
+pub pair-apart : (plan : Tables) → IsLawful plan → (number index : ℕ) (member : Member) (second : TrunkPlace) → member_at plan number index ≡ Some member
+    → member.second ≡ Some second → second ≢ member.first
 pair-apart plan lawful number index member second here paired same =
     let of = member_at-group plan number index member here in
     let group = distinct-at place_eq place_eq-itself group_places plan.groups number of.group (passes plan lawful).places_once of.group_is in

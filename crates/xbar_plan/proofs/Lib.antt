@@ -1,6 +1,8 @@
 pub mod Lists
 pub mod Ranges
 pub mod Distinct
+pub mod Repeats
+pub mod Failing
 pub mod Marks
 pub mod Numbered
 pub mod Lookups

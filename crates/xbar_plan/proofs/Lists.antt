@@ -1,7 +1,6 @@
-use Rattle.std.proofs.Common.{◌≡◌, ℕ, zero, suc, ◌+◌, Bool, true, false, cond, ◌⊎◌, List, [], ◌∷◌, map, inl, inr, refl, sym, ◌∙◌, ap, subst, arith}
-use Rattle.std.specs.Prelude.{Option, Some, None, IfSome, IsSomeAnd, slice_get, position, ◌||◌}
-use Rattle.std.specs.List.{list_any, position_from}
-use Rattle.std.proofs.lemmas.Iterator.Adapters.{position_from-zero}
+use Rattle.std.proofs.Common.{◌≡◌, ℕ, zero, suc, ◌+◌, Bool, true, false, cond, ◌⊎◌, List, [], ◌∷◌, map, inl, inr, refl, sym, ◌∙◌, ap, subst, arith, Option}
+use Rattle.std.proofs.Common.{Some, None, IfSome, IsSomeAnd, slice_get, position, ◌||◌}
+use Rattle.std.{specs.List.{list_any, position_from}, proofs.lemmas.Iterator.Adapters.position_from-zero}
 
 -- a test of the items that f gives
 pub list_any_map : {X Y : Type 0} (p : Y → Bool) (f : X → Y) (xs : List X) → list_any p (map f xs) ≡ list_any (λ x. p (f x)) xs
@@ -25,7 +24,8 @@ none_from p k (x ∷ xs) e (suc i) = none_from p (k + 1) xs (chosen_none (p x) k
 pub position-none : {X : Type 0} (p : X → Bool) (xs : List X) → position p xs ≡ None → (i : ℕ) → IfSome (slice_get xs i) (λ x. p x ≡ false)
 position-none p xs e = none_from p 0 xs (sym (position_from-zero p xs) ∙ e)
 
-some_from : {X : Type 0} (p : X → Bool) (k j : ℕ) (xs : List X) → position_from p k xs ≡ Some j → (i : ℕ) × (j ≡ k + i) × IsSomeAnd (slice_get xs i) (λ x. p x ≡ true)
+some_from : {X : Type 0} (p : X → Bool) (k j : ℕ) (xs : List X) → position_from p k xs ≡ Some j
+    → (i : ℕ) × (j ≡ k + i) × IsSomeAnd (slice_get xs i) (λ x. p x ≡ true)
 some_from p k j [] e = cc
 some_from p k j (x ∷ xs) e = elim (chosen_some (p x) k j (position_from p (k + 1) xs) e) [
   | inl here ↦ (0, omega (arith, here.1), here.0)

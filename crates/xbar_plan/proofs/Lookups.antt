@@ -1,12 +1,11 @@
-use Rattle.std.proofs.Common.{◌≡◌, ℕ, zero, suc, ◌+◌, ◌<◌, Bool, true, false, cond, List, [], ◌∷◌, refl, sym, ◌∙◌, ap, arith}
-use Rattle.std.specs.Prelude.{Option, Some, None, IsSomeAnd, IfSome, slice_get, option_map, find, position, unwrap_or, count_by}
-use Rattle.std.proofs.lemmas.List.Sums.{sum_by-cons}
-use Rattle.xbar_equip.proofs.Lists.{found_passes}
+use Rattle.std.proofs.Common.{◌≡◌, ℕ, zero, suc, ◌+◌, ◌<◌, Bool, true, false, cond, List, [], ◌∷◌, refl, sym, ◌∙◌, ap, arith, Option, Some, None, IsSomeAnd}
+use Rattle.std.proofs.Common.{IfSome, slice_get, option_map, find, position, unwrap_or, count_by}
+use Rattle.{std.proofs.lemmas.List.Sums.sum_by-cons, xbar_equip.{proofs.Lists.found_passes, specs.Among.IsIn}}
 use Rattle.xbar_plan.proofs.Lists.{position-none, position-some}
-use Rattle.xbar_equip.specs.Among.{IsIn}
 
 -- the result of a look-up is that of an item that passes
-pub found-item : {X Y : Type 0} (f : X → Y) (p : X → Bool) (xs : List X) (y : Y) → option_map f (find p xs) ≡ Some y → (x : X) × IsIn x xs × (p x ≡ true) × (f x ≡ y)
+pub found-item : {X Y : Type 0} (f : X → Y) (p : X → Bool) (xs : List X) (y : Y) → option_map f (find p xs) ≡ Some y
+    → (x : X) × IsIn x xs × (p x ≡ true) × (f x ≡ y)
 found-item {X} f p xs y e = of (find p xs) refl e where
   of : (o : Option X) → find p xs ≡ o → option_map f o ≡ Some y → (x : X) × IsIn x xs × (p x ≡ true) × (f x ≡ y)
   of None found given = cc
@@ -42,7 +41,8 @@ count-some p (a ∷ xs) (suc i) x e passes =
     omega (arith, rest, whole)
 
 -- if the count is 1, two items that pass are the same
-pub count-one : {X : Type 0} (p : X → Bool) (xs : List X) (i j : ℕ) (x y : X) → count_by p xs ≡ 1 → slice_get xs i ≡ Some x → p x ≡ true → slice_get xs j ≡ Some y → p y ≡ true → i ≡ j
+pub count-one : {X : Type 0} (p : X → Bool) (xs : List X) (i j : ℕ) (x y : X) → count_by p xs ≡ 1 → slice_get xs i ≡ Some x → p x ≡ true
+    → slice_get xs j ≡ Some y → p y ≡ true → i ≡ j
 count-one p [] i j x y one e passes e' passes' = cc
 count-one p (a ∷ xs) zero zero x y one e passes e' passes' = refl
 count-one p (a ∷ xs) zero (suc j) x y one e passes e' passes' =
@@ -64,7 +64,8 @@ count-one p (a ∷ xs) (suc i) (suc j) x y one e passes e' passes' =
     ap suc (count-one p xs i j x y rest e passes e' passes')
 
 -- if exactly one item passes, it is at the position found
-pub position-one : {X : Type 0} (p : X → Bool) (xs : List X) → count_by p xs ≡ 1 → (x : X) × (slice_get xs (unwrap_or (position p xs) 0) ≡ Some x) × (p x ≡ true)
+pub position-one : {X : Type 0} (p : X → Bool) (xs : List X) → count_by p xs ≡ 1
+    → (x : X) × (slice_get xs (unwrap_or (position p xs) 0) ≡ Some x) × (p x ≡ true)
 position-one {X} p xs one = of (position p xs) refl where
   at_some : (o : Option X) → IsSomeAnd o (λ x. p x ≡ true) → (x : X) × (o ≡ Some x) × (p x ≡ true)
   at_some None h = absurd h

@@ -1,14 +1,8 @@
-use Rattle.std.proofs.Common.{◌≡◌, ◌≢◌, ℕ, ◌+◌, ◌*◌, ◌<◌, ◌≤◌, Bool, true, false, List, [], ◌∷◌, ◌++◌, length, get_or, set, take, refl, sym, ◌∙◌, ap, subst, arith}
-use Rattle.std.specs.Prelude.{Some, slice_get, ◌||◌}
-use Rattle.std.specs.List.{list_any}
-use Rattle.std.proofs.lemmas.List.{take_more, take_all, get_or-set_same, get_or-set_other}
-use Rattle.std.proofs.lemmas.List.Folds.{list_any-append}
-use Rattle.std.proofs.lemmas.Option.{slice_get-get_or}
-use Rattle.xbar_equip.specs.Link.{Link, IsLink, link_eq}
-use Rattle.xbar_equip.specs.declared.link.LinkKind.{LinkKind}
-use Rattle.xbar_equip.specs.declared.link.LinkKind.TheVariants.{LineLink, Junctor, TrunkLink}
-use Rattle.xbar_equip.proofs.PathTests.{link_eq-exact}
-use Rattle.xbar_plan.specs.Numbered.{links_before, link_number}
+use Rattle.std.proofs.Common.{◌≡◌, ◌≢◌, ℕ, ◌+◌, ◌*◌, ◌<◌, ◌≤◌, Bool, true, false, List, [], ◌∷◌, ◌++◌, length, get_or, set, take, refl, sym, ◌∙◌, ap, subst}
+use Rattle.std.proofs.Common.{arith, Some, slice_get, ◌||◌, take_all, get_or-set_same, get_or-set_other}
+use Rattle.std.{specs.List.list_any, proofs.lemmas.{List.{take_more, Folds.list_any-append}, Option.slice_get-get_or}}
+use Rattle.xbar_equip.specs.{Link.{Link, IsLink, link_eq}, declared.link.LinkKind.{LinkKind, TheVariants.{LineLink, Junctor, TrunkLink}}}
+use Rattle.{xbar_equip.proofs.PathTests.link_eq-exact, xbar_plan.specs.Numbered.{links_before, link_number}}
 
 one_kind : (a b : LinkKind) (m n : ℕ) → m < 1000 → n < 1000 → links_before a + m ≡ links_before b + n → (a ≡ b) × (m ≡ n)
 one_kind LineLink LineLink m n h k e = (refl, omega arith)
@@ -54,7 +48,9 @@ below_3000 k h =
     omega (arith, hf, ha, hc, few)
 
 -- a table that marks the links so far marks one more after its mark is set
-pub marks-more : (marks : List Bool) (faults : List Link) (i : ℕ) (x : Link) → i < length faults → x ≡ get_or faults i x → IsLink x → link_number x < length marks → ((k : Link) → IsLink k → get_or marks (link_number k) false ≡ list_any (λ fault. link_eq fault k) (take i faults)) → (k : Link) → IsLink k → get_or (set marks (link_number x) true) (link_number k) false ≡ list_any (λ fault. link_eq fault k) (take (i + 1) faults)
+pub marks-more : (marks : List Bool) (faults : List Link) (i : ℕ) (x : Link) → i < length faults → x ≡ get_or faults i x → IsLink x
+    → link_number x < length marks → ((k : Link) → IsLink k → get_or marks (link_number k) false ≡ list_any (λ fault. link_eq fault k) (take i faults))
+    → (k : Link) → IsLink k → get_or (set marks (link_number x) true) (link_number k) false ≡ list_any (λ fault. link_eq fault k) (take (i + 1) faults)
 marks-more marks faults i x within read fits there marked k in_range = of (link_eq x k) refl where
   before : Bool
   before = list_any (λ fault. link_eq fault k) (take i faults)
@@ -83,7 +79,9 @@ marks-more marks faults i x within read fits there marked k in_range = of (link_
       ∙ sym (more ∙ ap (λ (b : Bool). before || (b || false)) e ∙ same before)
 
 -- and has a mark for each link
-pub all-marked : (marks : List Bool) (faults : List Link) (i : ℕ) → length faults ≤ i → length marks ≡ 3000 → ((k : Link) → IsLink k → get_or marks (link_number k) false ≡ list_any (λ fault. link_eq fault k) (take i faults)) → (k : Link) → IsLink k → slice_get marks (link_number k) ≡ Some (list_any (λ fault. link_eq fault k) faults)
+pub all-marked : (marks : List Bool) (faults : List Link) (i : ℕ) → length faults ≤ i → length marks ≡ 3000
+    → ((k : Link) → IsLink k → get_or marks (link_number k) false ≡ list_any (λ fault. link_eq fault k) (take i faults)) → (k : Link) → IsLink k
+    → slice_get marks (link_number k) ≡ Some (list_any (λ fault. link_eq fault k) faults)
 all-marked marks faults i past size marked k in_range =
     let there = below_3000 k in_range in
     slice_get-get_or marks (link_number k) false (omega (arith, size, there))

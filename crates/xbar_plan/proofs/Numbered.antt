@@ -1,13 +1,6 @@
-use Rattle.std.proofs.Common.{◌≡◌, Bool, true, false, List, [], ◌∷◌, map, refl, sym, ◌∙◌, ap, arith}
-use Rattle.std.specs.Prelude.{nat_eq, not, ◌&&◌, ◌||◌}
-use Rattle.std.specs.List.{list_any, list_all}
-use borrow.Author.Tests.{eqb-true, eq-eqb}
-use Rattle.xbar_equip.specs.Ten.{TrunkPlace, IsTrunkPlace, is_trunk_place, place_eq}
-use Rattle.xbar_equip.proofs.Logic.{both}
-use Rattle.xbar_equip.proofs.PathTests.{place_eq-exact}
-use Rattle.xbar_equip.proofs.Ranges.{place_in_range}
-use Rattle.xbar_plan.specs.Lawful.{are_distinct}
-use Rattle.xbar_plan.specs.Numbered.{place_number}
+use Rattle.std.proofs.Common.{◌≡◌, Bool, true, false, List, [], ◌∷◌, map, refl, sym, ◌∙◌, ap, arith, nat_eq, not, ◌&&◌, ◌||◌, eqb-true, eq-eqb}
+use Rattle.{std.specs.List.{list_any, list_all}, xbar_equip.specs.Ten.{TrunkPlace, IsTrunkPlace, is_trunk_place, place_eq}}
+use Rattle.{xbar_equip.proofs.{Logic.both, PathTests.place_eq-exact, Ranges.place_in_range}, xbar_plan.specs.{Lawful.are_distinct, Numbered.place_number}}
 
 -- places in range with the same number are the same
 pub one_place : (a b : TrunkPlace) → IsTrunkPlace a → IsTrunkPlace b → place_number a ≡ place_number b → a ≡ b
@@ -28,7 +21,8 @@ same_test a b h k = of (place_eq a b) (nat_eq (place_number a) (place_number b))
   of false true e f = sym e ∙ (place_eq-exact a b).1 (one_place a b h k (eqb-true (place_number a) (place_number b) f))
   of false false e f = refl
 
-same_any : (place : TrunkPlace) → IsTrunkPlace place → (xs : List TrunkPlace) → list_all is_trunk_place xs ≡ true → list_any (λ other. place_eq other place) xs ≡ list_any (λ other. nat_eq other (place_number place)) (map place_number xs)
+same_any : (place : TrunkPlace) → IsTrunkPlace place → (xs : List TrunkPlace) → list_all is_trunk_place xs ≡ true
+    → list_any (λ other. place_eq other place) xs ≡ list_any (λ other. nat_eq other (place_number place)) (map place_number xs)
 same_any place h [] all = refl
 same_any place h (x ∷ xs) all =
     let parts = both (is_trunk_place x) (list_all is_trunk_place xs) all in

@@ -1,12 +1,6 @@
-use Rattle.std.proofs.Common.{◌≡◌, ◌≢◌, ℕ, Bool, true, false, inl, inr, refl, sym, ◌∙◌, ap, subst}
-use Rattle.std.specs.Prelude.{Option, Some, None, option_to_list, is_some, if◌then◌else◌}
-use Rattle.xbar_equip.specs.Ten.{TrunkPlace, place_eq}
-use Rattle.xbar_equip.proofs.PathTests.{place_eq-exact}
-use Rattle.xbar_plan.specs.Group.{places, stands_at, other_place}
-use Rattle.xbar_plan.specs.Tables.{Tables, member_at}
-use Rattle.xbar_plan.specs.Lawful.{IsLawful}
-use Rattle.xbar_plan.specs.declared.group.Member.{Member}
-use Rattle.xbar_equip.specs.Among.{IsIn}
+use Rattle.std.proofs.Common.{◌≡◌, ◌≢◌, ℕ, Bool, true, false, inl, inr, refl, sym, ◌∙◌, ap, subst, Option, Some, None, option_to_list, is_some, if◌then◌else◌}
+use Rattle.xbar_equip.{specs.{Ten.{TrunkPlace, place_eq}, Among.IsIn}, proofs.PathTests.place_eq-exact}
+use Rattle.xbar_plan.specs.{Group.{places, stands_at, other_place}, Tables.{Tables, member_at}, Lawful.IsLawful, declared.group.Member.Member}
 use Rattle.xbar_plan.proofs.LawfulPlans.{stands_at-has, has-stands_at, pair-frame, pair-apart}
 
 -- how two places of one member are related
@@ -37,7 +31,8 @@ second_is (Some second) place (inl same) = ap (λ (p : TrunkPlace). Some p) (sym
 second_is (Some second) place (inr h) = absurd h
 
 -- the other place of a member's place, in a lawful plan
-pub others : (plan : Tables) → IsLawful plan → (number index : ℕ) (member : Member) (place other : TrunkPlace) → member_at plan number index ≡ Some member → stands_at member place ≡ true → other_place member place ≡ Some other → AreOthers member place other
+pub others : (plan : Tables) → IsLawful plan → (number index : ℕ) (member : Member) (place other : TrunkPlace) → member_at plan number index ≡ Some member
+    → stands_at member place ≡ true → other_place member place ≡ Some other → AreOthers member place other
 others plan lawful number index member place other here stands seen = of (stands_at-has member place stands) where
   of : IsIn place (places member) → AreOthers member place other
   of (inl is_first) =
@@ -64,7 +59,8 @@ others plan lawful number index member place other here stands seen = of (stands
       }
 
 -- a place of a member has another place exactly if the member has two
-pub other-paired : (plan : Tables) → IsLawful plan → (number index : ℕ) (member : Member) (place : TrunkPlace) → member_at plan number index ≡ Some member → stands_at member place ≡ true → is_some (other_place member place) ≡ is_some member.second
+pub other-paired : (plan : Tables) → IsLawful plan → (number index : ℕ) (member : Member) (place : TrunkPlace) → member_at plan number index ≡ Some member
+    → stands_at member place ≡ true → is_some (other_place member place) ≡ is_some member.second
 other-paired plan lawful number index member place here stands = of (stands_at-has member place stands) where
   of : IsIn place (places member) → is_some (other_place member place) ≡ is_some member.second
   of (inl is_first) = ap is_some (other-first member place (sym is_first))

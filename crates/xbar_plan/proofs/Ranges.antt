@@ -1,8 +1,5 @@
-use Rattle.std.proofs.Common.{◌≡◌, ◌≤◌, ℕ, true}
-use Rattle.std.specs.Prelude.{nat_le}
-use Rattle.std.proofs.lemmas.Bool.{leb-true}
-use Rattle.xbar_equip.proofs.Logic.{both}
-use Rattle.xbar_plan.specs.Lawful.{is_between}
+use Rattle.std.proofs.Common.{◌≡◌, ◌≤◌, ℕ, true, nat_le, leb-true}
+use Rattle.{xbar_equip.proofs.Logic.both, xbar_plan.specs.Lawful.is_between}
 
 -- a number from `least` to `most`
 pub between : (least most n : ℕ) → is_between least most n ≡ true → (least ≤ n) × (n ≤ most)

@@ -5,6 +5,7 @@ pub mod Group
 pub mod Tables
 pub mod Fault
 pub mod Lawful
+pub mod TableFault
 pub mod Numbered
 pub mod Directory
 pub mod TableSlices

@@ -6,6 +6,7 @@ use crate::fault::PlanFault;
 use crate::group::{Group, MemberPlace};
 use crate::route::Route;
 use crate::station::Station;
+use crate::table_fault::TableFault;
 use crate::table_slices::TableSlices;
 use crate::{example, lawful};
 use std::alloc::{AllocError, Global};
@@ -49,6 +50,7 @@ impl Plan {
     ghost use Rattle.xbar_plan.specs.Tables.{Tables, lines_of, route_of, register_group as register_group_of, is_faulty, member_place};
     ghost use Rattle.xbar_plan.specs.TableSlices.{tables_of};
     ghost use Rattle.xbar_plan.specs.Lawful.{IsLawful, IsPlanOf};
+    ghost use Rattle.xbar_plan.specs.TableFault.{IsCheckedPlan};
     ghost use Rattle.xbar_plan.specs.Example.{example as the_example};
 
     /// Makes a plan from tables that are known to be lawful.
@@ -99,11 +101,33 @@ impl Plan {
           faults = faults.items;
         }) result }
     {
-        let tables = TableSlices::new(&groups, &stations, &routes, &faults);
-        match lawful::fault_in(alloc, &tables)? {
-            None => Ok(Plan::new(alloc, groups, stations, routes, faults)?),
-            Some(fault) => Err(fault),
+        match Plan::checked(alloc, groups, stations, routes, faults) {
+            Ok(plan) => Ok(plan),
+            Err(wrong) => Err(wrong.fault()),
         }
+    }
+
+    /// Makes a plan from tables, or returns their first fault with its place. `Memory` may be
+    /// returned instead of either.
+    pub fn checked(
+        alloc: Global,
+        groups: Vec<Group>,
+        stations: Vec<Station>,
+        routes: Vec<Route>,
+        faults: Vec<Link>,
+    ) -> Result<Self, TableFault>
+        ensures { IsCheckedPlan (record {
+          groups = groups.items;
+          stations = stations.items;
+          routes = routes.items;
+          faults = faults.items;
+        }) result }
+    {
+        lawful::check(
+            alloc,
+            &TableSlices::new(&groups, &stations, &routes, &faults),
+        )?;
+        Ok(Plan::new(alloc, groups, stations, routes, faults)?)
     }
 
     /// A small plan with groups of each kind: registers 417, 418 and 509, two intra trunks, and

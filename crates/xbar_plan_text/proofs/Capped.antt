@@ -1,14 +1,8 @@
-use Rattle.std.proofs.Common.{◌≡◌, ℕ, ◌≤◌, Bool, true, false, List, [], ◌∷◌, length, map, refl, sym, ◌∙◌, ap, arith}
-use Rattle.std.specs.Prelude.{Option, Some, None, position, unwrap_or, bytes_eq, nat_le, nat_lt, ◌&&◌, if◌then◌else◌}
-use Rattle.std.specs.List.{list_all}
-use Rattle.std.proofs.lemmas.List.Quantifiers.{position-Some}
-use Rattle.std.proofs.lemmas.Bool.{leb-true}
-use Rattle.xbar_plan.specs.Group.{TrunkGroup}
-use Rattle.xbar_plan.specs.Tables.{Tables}
-use Rattle.xbar_plan.specs.Lawful.{fault_in, are_well_formed}
-use Rattle.xbar_plan_text.specs.Texts.{CodeEntry, group_number, route_of_entry, capped_number, capped_route}
-use Rattle.xbar_plan_text.specs.Document.{Entries, tables_of_entries}
-use Rattle.xbar_plan.specs.declared.fault.PlanFault.TheVariants.{Malformed, Limit}
+use Rattle.std.proofs.Common.{◌≡◌, ℕ, ◌≤◌, Bool, true, false, List, [], ◌∷◌, length, map, refl, sym, ◌∙◌, ap, arith, Option, Some, None, position, unwrap_or}
+use Rattle.std.proofs.Common.{bytes_eq, nat_le, nat_lt, ◌&&◌, if◌then◌else◌, leb-true}
+use Rattle.std.{specs.List.list_all, proofs.lemmas.List.Quantifiers.position-Some}
+use Rattle.xbar_plan.specs.{Group.TrunkGroup, Tables.Tables, Lawful.{fault_in, are_well_formed}, declared.fault.PlanFault.TheVariants.{Malformed, Limit}}
+use Rattle.xbar_plan_text.specs.{Texts.{CodeEntry, group_number, route_of_entry, capped_number, capped_route}, Document.{Entries, tables_of_entries}}
 
 -- a group's number is at most the number of groups
 number-bound : (groups : List TrunkGroup) (name : List ℕ) → group_number groups name ≤ length groups
@@ -27,9 +21,11 @@ same-numbers : (groups : List TrunkGroup) (names : List (List ℕ)) → length g
 same-numbers groups [] few = refl
 same-numbers groups (name ∷ names) few = λ i. same-number groups name few i ∷ same-numbers groups names few i
 
-same-routes : (groups : List TrunkGroup) (entries : List CodeEntry) → length groups ≤ 16 → map (capped_route groups) entries ≡ map (route_of_entry groups) entries
+same-routes : (groups : List TrunkGroup) (entries : List CodeEntry) → length groups ≤ 16
+    → map (capped_route groups) entries ≡ map (route_of_entry groups) entries
 same-routes groups [] few = refl
-same-routes groups (entry ∷ entries) few = λ i. (record { code = entry.code; groups = same-numbers groups entry.names few i }) ∷ same-routes groups entries few i
+same-routes groups (entry ∷ entries) few =
+    λ i. (record { code = entry.code; groups = same-numbers groups entry.names few i }) ∷ same-routes groups entries few i
 
 -- the tables with groups by capped numbers
 abbrev pub capped_tables : Entries → Tables
@@ -41,10 +37,13 @@ capped_tables entries = record {
 }
 
 same-tables : (entries : Entries) → length entries.groups ≤ 16 → capped_tables entries ≡ tables_of_entries entries
-same-tables entries few = λ i. record { groups = entries.groups; stations = entries.stations; routes = same-routes entries.groups entries.codes few i; faults = entries.faults }
+same-tables entries few =
+    λ i. record { groups = entries.groups; stations = entries.stations; routes = same-routes entries.groups entries.codes few i; faults = entries.faults }
 
 -- with more groups both are refused, for the same fault
-same-codes : (groups : List TrunkGroup) (entries : List CodeEntry) → list_all (λ route. nat_lt route.code 1000) (map (capped_route groups) entries) ≡ list_all (λ route. nat_lt route.code 1000) (map (route_of_entry groups) entries)
+same-codes : (groups : List TrunkGroup) (entries : List CodeEntry)
+    → list_all (λ route. nat_lt route.code 1000) (map (capped_route groups) entries)
+    ≡ list_all (λ route. nat_lt route.code 1000) (map (route_of_entry groups) entries)
 same-codes groups [] = refl
 same-codes groups (entry ∷ entries) = ap (λ (b : Bool). nat_lt entry.code 1000 && b) (same-codes groups entries)
 

@@ -1,16 +1,8 @@
-use Rattle.std.proofs.Common.{◌≡◌, ℕ, Bool, true, false, List, [], ◌∷◌, ◌⊎◌, inl, inr, refl, sym, ◌∙◌, ap}
-use Rattle.std.specs.Prelude.{Option, Some, None, Result, Err, option_map, option_and_then, if◌then◌else◌}
-use Rattle.std.specs.Str.{IsUtf8, is_utf8}
-use Rattle.std.proofs.lemmas.Str.{IsUtf8-from_is_utf8, is_utf8-from_IsUtf8}
-use Rattle.toml.specs.Data.{Members, as_str}
-use Rattle.toml.specs.Parse.{parse_document}
-use Rattle.toml.specs.View.{view, items_view}
-use Rattle.toml.specs.declared.value.Value.{Value}
-use Rattle.xbar_plan.specs.Tables.{Tables}
-use Rattle.xbar_plan_text.specs.Texts.{read_all}
-use Rattle.xbar_plan_text.specs.Document.{document_of, texts_of_items, needs}
-use Rattle.xbar_plan.specs.declared.fault.PlanFault.{PlanFault}
-use Rattle.xbar_plan.specs.declared.fault.PlanFault.TheVariants.{Memory}
+use Rattle.std.proofs.Common.{◌≡◌, ℕ, Bool, true, false, List, [], ◌∷◌, refl, ◌∙◌, ap, Option, Some, None, Result, Err, option_map}
+use Rattle.std.proofs.Common.{option_and_then, if◌then◌else◌, IsUtf8}
+use Rattle.{std.{specs.Str.is_utf8, proofs.lemmas.Str.{IsUtf8-from_is_utf8, is_utf8-from_IsUtf8}}, toml.specs.{Data.{Members, as_str}, Parse.parse_document}}
+use Rattle.{toml.specs.{View.{view, items_view}, declared.value.Value.Value}, xbar_plan.specs.{Tables.Tables, declared.fault.PlanFault.PlanFault}}
+use Rattle.xbar_plan_text.specs.{Texts.read_all, Document.{document_of, texts_of_items, needs}}
 
 -- bytes that are UTF-8 and parse are a document
 pub document-some : (bytes : List ℕ) (document : Members) → IsUtf8 bytes → parse_document bytes ≡ Some document → document_of bytes ≡ Some document
@@ -29,16 +21,13 @@ document-none bytes refused = of (is_utf8 bytes) refl where
 pub texts-read : (values : List Value) → texts_of_items (items_view values) ≡ read_all (λ value. as_str (view value)) values
 texts-read [] = refl
 texts-read (value ∷ values) =
-    ap (λ (o : Option (List (List ℕ))). option_and_then (λ text. option_map {U = List (List ℕ)} (λ texts. text ∷ texts) o) (as_str (view value))) (texts-read values)
+    ap (λ (o : Option (List (List ℕ))). option_and_then (λ text. option_map {U = List (List ℕ)} (λ texts. text ∷ texts) o) (as_str (view value)))
+    (texts-read values)
 
 -- a stage with a value goes on, and a stage without one ends with its fault
-pub goes_on : {A : Type 0} (told : PlanFault) (wanted : Option A) (next : A → Result Tables PlanFault) (value : A) → wanted ≡ Some value → needs told wanted next ≡ next value
+pub goes_on : {A : Type 0} (told : PlanFault) (wanted : Option A) (next : A → Result Tables PlanFault) (value : A) → wanted ≡ Some value
+    → needs told wanted next ≡ next value
 goes_on {A} told wanted next value e = ap (λ (o : Option A). needs told o next) e
 
 pub ends : {A : Type 0} (told : PlanFault) (wanted : Option A) (next : A → Result Tables PlanFault) → wanted ≡ None → needs told wanted next ≡ Err told
 ends {A} told wanted next e = ap (λ (o : Option A). needs told o next) e
-
--- a refusal by a stage is a refusal by the reading
-pub stage_refuses : {A : Type 0} (told refusal : PlanFault) (wanted : Option A) (next : A → Result Tables PlanFault) → (refusal ≡ Memory) ⊎ ((refusal ≡ told) × (wanted ≡ None)) → (refusal ≡ Memory) ⊎ (needs told wanted next ≡ Err refusal)
-stage_refuses told refusal wanted next (inl memory) = inl memory
-stage_refuses told refusal wanted next (inr e) = inr (ends told wanted next e.1 ∙ ap (λ f. Err f) (sym e.0))

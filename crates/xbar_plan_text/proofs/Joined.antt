@@ -1,5 +1,4 @@
-use Rattle.std.proofs.lemmas.Grind.{flat_map-append}
-use Rattle.std.proofs.lemmas.List.Folds.{flat_map-map}
+use Rattle.std.proofs.lemmas.{Grind.flat_map-append, List.Folds.flat_map-map}
 
 -- laws of texts that are joined from items
 pub ruleset joined = (flat_map-append, flat_map-map)

@@ -1,4 +1,5 @@
 pub mod ReadAll
+pub mod FirstItem
 pub mod WhoseText
 pub mod Parts
 pub mod Names

@@ -1,10 +1,5 @@
-use Rattle.std.proofs.Common.{◌≡◌, ℕ, zero, suc, ◌<◌, true, List, [], ◌∷◌, length, inl, inr, arith}
-use Rattle.std.specs.Prelude.{nat_le}
-use Rattle.std.specs.List.{list_all}
-use Rattle.std.specs.Char.{is_ascii_digit, is_ascii_uppercase}
-use Rattle.std.specs.Str.{IsAscii}
-use Rattle.std.proofs.lemmas.Bool.{leb-true}
-use Rattle.xbar_equip.proofs.Logic.{both, either}
+use Rattle.std.proofs.Common.{◌≡◌, ℕ, zero, suc, ◌<◌, true, List, [], ◌∷◌, length, inl, inr, arith, nat_le, IsAscii, leb-true}
+use Rattle.{std.specs.{List.list_all, Char.{is_ascii_digit, is_ascii_uppercase}}, xbar_equip.proofs.Logic.{both, either}}
 use Rattle.xbar_plan.specs.Lawful.{is_between, is_name, is_name_character}
 
 -- a letter or a digit is below 128, and is not a space

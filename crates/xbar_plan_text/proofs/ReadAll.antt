@@ -1,19 +1,20 @@
-use Rattle.std.proofs.Common.{◌≡◌, ℕ, ◌+◌, ◌<◌, ◌≤◌, List, [], ◌∷◌, ◌++◌, length, take, drop, get_or, map, ◌⊎◌, inl, inr, refl, sym, ◌∙◌, ap}
-use Rattle.std.specs.Prelude.{Option, Some, None, option_map, option_and_then}
-use Rattle.std.proofs.lemmas.List.{take_more, take_all, take-append-drop}
-use Rattle.xbar_plan_text.specs.Texts.{read_all}
-use Rattle.xbar_plan.specs.declared.fault.PlanFault.{PlanFault}
-use Rattle.xbar_plan.specs.declared.fault.PlanFault.TheVariants.{Malformed, Memory}
+use Rattle.std.proofs.Common.{◌≡◌, ℕ, ◌+◌, ◌<◌, ◌≤◌, List, [], ◌∷◌, ◌++◌, length, take, drop, get_or, map, refl, sym, ◌∙◌, ap, Option, Some}
+use Rattle.std.proofs.Common.{None, option_map, option_and_then, take_all, take-append-drop}
+use Rattle.{std.proofs.lemmas.List.take_more, xbar_plan_text.specs.Texts.read_all}
 
 -- items read one by one
-snoc : {X Y : Type 0} (f : X → Option Y) (xs : List X) (ys : List Y) (x : X) (y : Y) → read_all f xs ≡ Some ys → f x ≡ Some y → read_all f (xs ++ x ∷ []) ≡ Some (ys ++ y ∷ [])
+snoc : {X Y : Type 0} (f : X → Option Y) (xs : List X) (ys : List Y) (x : X) (y : Y) → read_all f xs ≡ Some ys → f x ≡ Some y
+    → read_all f (xs ++ x ∷ []) ≡ Some (ys ++ y ∷ [])
 snoc {X} {Y} f [] ys x y before here =
     let none : [] ≡ ys = some_is [] ys before in
-    ap (λ (o : Option Y). option_and_then (λ first. option_map {U = List Y} (λ others. first ∷ others) (Some [])) o) here ∙ ap (λ (zs : List Y). Some (zs ++ y ∷ [])) none where
+    ap (λ (o : Option Y). option_and_then (λ first. option_map {U = List Y} (λ others. first ∷ others) (Some [])) o) here
+    ∙ ap (λ (zs : List Y). Some (zs ++ y ∷ [])) none where
       some_is : (before after : List Y) → Some before ≡ Some after → before ≡ after
       some_is before after e = cc
 snoc {X} {Y} f (a ∷ xs) ys x y before here = of (f a) refl (read_all f xs) refl (λ bs others. snoc f xs bs x y others here) before where
-  of : (o : Option Y) → f a ≡ o → (p : Option (List Y)) → read_all f xs ≡ p → ((bs : List Y) → read_all f xs ≡ Some bs → read_all f (xs ++ x ∷ []) ≡ Some (bs ++ y ∷ [])) → option_and_then (λ first. option_map {U = List Y} (λ others. first ∷ others) p) o ≡ Some ys → read_all f ((a ∷ xs) ++ x ∷ []) ≡ Some (ys ++ y ∷ [])
+  of : (o : Option Y) → f a ≡ o → (p : Option (List Y)) → read_all f xs ≡ p
+      → ((bs : List Y) → read_all f xs ≡ Some bs → read_all f (xs ++ x ∷ []) ≡ Some (bs ++ y ∷ []))
+      → option_and_then (λ first. option_map {U = List Y} (λ others. first ∷ others) p) o ≡ Some ys → read_all f ((a ∷ xs) ++ x ∷ []) ≡ Some (ys ++ y ∷ [])
   of None first p others later e = cc
   of (Some b) first None others later e = cc
   of (Some b) first (Some bs) others later e =
@@ -26,7 +27,8 @@ snoc {X} {Y} f (a ∷ xs) ys x y before here = of (f a) refl (read_all f xs) ref
 fails : {X Y : Type 0} (f : X → Option Y) (xs zs : List X) (x : X) → f x ≡ None → read_all f (xs ++ x ∷ zs) ≡ None
 fails {X} {Y} f [] zs x here = ap (λ (o : Option Y). option_and_then (λ first. option_map {U = List Y} (λ others. first ∷ others) (read_all f zs)) o) here
 fails {X} {Y} f (a ∷ xs) zs x here =
-    ap (λ (p : Option (List Y)). option_and_then (λ first. option_map {U = List Y} (λ others. first ∷ others) p) (f a)) (fails f xs zs x here) ∙ none (f a) where
+    ap (λ (p : Option (List Y)). option_and_then (λ first. option_map {U = List Y} (λ others. first ∷ others) p) (f a)) (fails f xs zs x here)
+    ∙ none (f a) where
       none : (o : Option Y) → option_and_then (λ first. option_map {U = List Y} (λ others. first ∷ others) None) o ≡ None
       none None = refl
       none (Some b) = refl
@@ -41,19 +43,16 @@ split_at {X} xs i d within =
       joined (a ∷ zs) bs cs = ap (λ (all : List X). a ∷ all) (joined zs bs cs)
 
 -- one step of a loop that reads the items
-pub read_more : {X Y : Type 0} (f : X → Option Y) (xs : List X) (ys : List Y) (i : ℕ) (d : X) (y : Y) → i < length xs → read_all f (take i xs) ≡ Some ys → f (get_or xs i d) ≡ Some y → read_all f (take (i + 1) xs) ≡ Some (ys ++ y ∷ [])
+pub read_more : {X Y : Type 0} (f : X → Option Y) (xs : List X) (ys : List Y) (i : ℕ) (d : X) (y : Y) → i < length xs → read_all f (take i xs) ≡ Some ys
+    → f (get_or xs i d) ≡ Some y → read_all f (take (i + 1) xs) ≡ Some (ys ++ y ∷ [])
 read_more f xs ys i d y within before here = ap (read_all f) (take_more xs i d within) ∙ snoc f (take i xs) ys (get_or xs i d) y before here
 
 pub read_fails : {X Y : Type 0} (f : X → Option Y) (xs : List X) (i : ℕ) (d : X) → i < length xs → f (get_or xs i d) ≡ None → read_all f xs ≡ None
 read_fails f xs i d within here =
     ap (read_all f) (sym (split_at xs i d within)) ∙ fails f (take i xs) (drop (i + 1) xs) (get_or xs i d) here
 
--- a refusal of one item is a refusal of the list
-pub refused : {X Y : Type 0} (f : X → Option Y) (xs : List X) (i : ℕ) (d : X) (told : PlanFault) → i < length xs → (told ≡ Memory) ⊎ ((told ≡ Malformed) × (f (get_or xs i d) ≡ None)) → (told ≡ Memory) ⊎ ((told ≡ Malformed) × (read_all f xs ≡ None))
-refused f xs i d told within (inl memory) = inl memory
-refused f xs i d told within (inr malformed) = inr (malformed.0, read_fails f xs i d within malformed.1)
-
-pub read_whole : {X Y : Type 0} (f : X → Option Y) (xs : List X) (ys : List Y) (i : ℕ) → length xs ≤ i → read_all f (take i xs) ≡ Some ys → read_all f xs ≡ Some ys
+pub read_whole : {X Y : Type 0} (f : X → Option Y) (xs : List X) (ys : List Y) (i : ℕ) → length xs ≤ i → read_all f (take i xs) ≡ Some ys
+    → read_all f xs ≡ Some ys
 read_whole f xs ys i past before = ap (read_all f) (sym (take_all i xs past)) ∙ before
 
 -- reading the items that a function gives

@@ -1,16 +1,9 @@
-use Rattle.std.proofs.Common.{◌≡◌, ℕ, ◌+◌, ◌-◌, ◌*◌, ◌/◌, ◌%◌, ◌<◌, Bool, true, false, List, refl, sym, ap, subst, arith}
-use Rattle.std.specs.Prelude.{Some, None, Result, Ok, Err, IfOk, ◌&&◌, if◌then◌else◌, bytes_eq, nat_lt}
-use Rattle.std.specs.Result.{result_ok}
-use Rattle.std.proofs.lemmas.Bool.{ltb-true, lt-ltb}
-use Rattle.std.proofs.lemmas.Slice.Eq.{bytes_eq-Decides}
-use Rattle.xbar_equip.specs.Len.{Line, IsLine, is_line, line_text}
-use Rattle.xbar_equip.specs.Ten.{TrunkPlace, IsTrunkPlace, is_trunk_place, place_text}
-use Rattle.xbar_equip.specs.Link.{Link, IsLink, is_link, link_text}
-use Rattle.xbar_equip.specs.DirNo.{IsDirNo, dir_no_text}
-use Rattle.xbar_equip.specs.declared.link.LinkKind.{LinkKind}
-use Rattle.xbar_equip.specs.declared.link.LinkKind.TheVariants.{LineLink, Junctor, TrunkLink}
-use Rattle.xbar_equip.proofs.Logic.{both, both_hold}
-use Rattle.xbar_equip.proofs.Ranges.{line_passes, line_in_range, place_passes, place_in_range, link_passes, link_in_range}
+use Rattle.std.proofs.Common.{◌≡◌, ℕ, ◌+◌, ◌-◌, ◌*◌, ◌/◌, ◌%◌, ◌<◌, Bool, true, false, List, refl, sym, ap, subst, arith, Some, None, Result, Ok, Err, IfOk}
+use Rattle.std.proofs.Common.{◌&&◌, if◌then◌else◌, bytes_eq, nat_lt, ltb-true, lt-ltb}
+use Rattle.{std.{specs.Result.result_ok, proofs.lemmas.Slice.Eq.bytes_eq-Decides}, xbar_equip.specs.Len.{Line, IsLine, is_line, line_text}}
+use Rattle.xbar_equip.specs.{Ten.{TrunkPlace, IsTrunkPlace, is_trunk_place, place_text}, Link.{Link, IsLink, is_link, link_text}, DirNo.{IsDirNo, dir_no_text}}
+use Rattle.xbar_equip.specs.declared.link.LinkKind.{LinkKind, TheVariants.{LineLink, Junctor, TrunkLink}}
+use Rattle.xbar_equip.proofs.{Logic.{both, both_hold}, Ranges.{line_passes, line_in_range, place_passes, place_in_range, link_passes, link_in_range}}
 use Rattle.xbar_plan_text.specs.Texts.{whose_text, digit_at, link_kind_of}
 
 -- a type of values with texts from which they can be read back
@@ -33,10 +26,12 @@ module _ {A : Type 0} (has : HasTexts A) where
   pub written_reads : (x : A) → InRange x → whose_text in_range text_of (text_of x) (value_of (text_of x)) ≡ Some x
   written_reads x h =
       subst (λ (v : A). whose_text in_range text_of (text_of x) v ≡ Some x) (sym (back x h))
-      (ap (λ (b : Bool). if b then Some x else None) (both_hold (in_range x) (bytes_eq (text_of x) (text_of x)) (passes x h) ((bytes_eq-Decides (text_of x) (text_of x)).1 refl)))
+      (ap (λ (b : Bool). if b then Some x else None) (both_hold (in_range x) (bytes_eq (text_of x) (text_of x)) (passes x h)
+      ((bytes_eq-Decides (text_of x) (text_of x)).1 refl)))
 
   -- the result of a parser that accepts exactly the texts of values in range
-  pub parser_reads : {E : Type 0} (text : List ℕ) (r : Result A E) → ((x : A) → InRange x → text ≡ text_of x → r ≡ Ok x) → IfOk r (λ x. InRange x × (text ≡ text_of x)) → result_ok r ≡ whose_text in_range text_of text (value_of text)
+  pub parser_reads : {E : Type 0} (text : List ℕ) (r : Result A E) → ((x : A) → InRange x → text ≡ text_of x → r ≡ Ok x)
+      → IfOk r (λ x. InRange x × (text ≡ text_of x)) → result_ok r ≡ whose_text in_range text_of text (value_of text)
   parser_reads text (Ok x) reads only =
       sym (subst (λ (t : List ℕ). whose_text in_range text_of t (value_of t) ≡ Some x) (sym only.1) (written_reads x only.0))
   parser_reads {E} text (Err e) reads only = of (in_range (value_of text) && bytes_eq text (text_of (value_of text))) refl where
@@ -91,7 +86,9 @@ numbers = record {
 abbrev value_at : List ℕ → Link
 value_at text = record { kind = link_kind_of text; frame = digit_at text 2; at = digit_at text 3; channel = digit_at text 4 }
 
-pub link_back : (kind : LinkKind) (frame at channel : ℕ) → value_at (link_text (record { kind = kind; frame = frame; at = at; channel = channel })) ≡ record { kind = kind; frame = frame; at = at; channel = channel }
+pub link_back : (kind : LinkKind) (frame at channel : ℕ)
+    → value_at (link_text (record { kind = kind; frame = frame; at = at; channel = channel }))
+    ≡ record { kind = kind; frame = frame; at = at; channel = channel }
 link_back LineLink frame at channel = λ i. record { kind = LineLink; frame = less frame i; at = less at i; channel = less channel i }
 link_back Junctor frame at channel = λ i. record { kind = Junctor; frame = less frame i; at = less at i; channel = less channel i }
 link_back TrunkLink frame at channel = λ i. record { kind = TrunkLink; frame = less frame i; at = less at i; channel = less channel i }

@@ -1,32 +1,17 @@
-use Rattle.std.proofs.Common.{◌≡◌, ℕ, zero, suc, ◌+◌, ◌-◌, ◌*◌, ◌/◌, ◌%◌, ◌<◌, Bool, true, false, List, [], ◌∷◌, ◌++◌, length, map, inl, refl, sym, ◌∙◌, ap, subst, arith}
-use Rattle.std.specs.Prelude.{Option, Some, None, option_to_list, flat_map, slice_get, IfSome, IsSomeAnd, position, unwrap_or, bytes_eq, ◌==◌, ◌&&◌, not, nat_le, nat_lt, is_some, if◌then◌else◌}
-use Rattle.std.specs.List.{list_all}
-use Rattle.std.specs.Char.{is_ascii_digit}
-use Rattle.std.specs.Bool.{beq}
-use Rattle.std.proofs.lemmas.Bool.{ltb-true, lt-ltb, le-leb}
-use Rattle.std.proofs.lemmas.List.Quantifiers.{position-Some}
-use Rattle.std.proofs.lemmas.List.Folds.{list_all-append}
-use Rattle.std.proofs.lemmas.Slice.Eq.{bytes_eq-Decides}
-use borrow.Author.Tests.{eqb-true}
-use Rattle.xbar_equip.specs.Digits.{digits}
-use Rattle.xbar_equip.specs.Len.{Line, is_line, line_text}
-use Rattle.xbar_equip.specs.Ten.{TrunkPlace, is_trunk_place, place_text}
-use Rattle.xbar_equip.specs.Link.{Link, is_link, link_text}
-use Rattle.xbar_equip.specs.DirNo.{dir_no_text}
-use Rattle.xbar_equip.proofs.Logic.{both, both_hold}
-use Rattle.xbar_equip.proofs.Ranges.{place_in_range, line_in_range, link_in_range}
-use Rattle.xbar_plan.specs.Group.{TrunkGroup, kind_eq, places, is_intra}
-use Rattle.xbar_plan.specs.Tables.{Station, Route}
-use Rattle.xbar_plan.specs.Lawful.{is_between, is_name, is_name_character, has_its_places, is_well_formed_group, are_distinct, are_names_distinct, group_places}
-use Rattle.xbar_plan_text.specs.Texts.{parts, onto_first, read_all, line_of, place_of, number_of, code_of, fault_of, member_of, kind_of, name_of, group_of, station_of, CodeEntry, code_entry_of, group_number, route_of_entry}
+use Rattle.std.proofs.Common.{◌≡◌, ℕ, zero, suc, ◌+◌, ◌-◌, ◌*◌, ◌/◌, ◌%◌, ◌<◌, Bool, true, false, List, [], ◌∷◌, ◌++◌, length, map, inl, refl, sym, ◌∙◌, ap}
+use Rattle.std.proofs.Common.{subst, arith, Option, Some, None, option_to_list, flat_map, slice_get, IfSome, IsSomeAnd, position, unwrap_or, bytes_eq, ◌==◌}
+use Rattle.std.proofs.Common.{◌&&◌, not, nat_le, nat_lt, is_some, if◌then◌else◌, ltb-true, lt-ltb, le-leb, eqb-true}
+use Rattle.std.specs.{List.list_all, Char.is_ascii_digit, Bool.beq}
+use Rattle.{std.proofs.lemmas.{List.{Quantifiers.position-Some, Folds.list_all-append}, Slice.Eq.bytes_eq-Decides}, xbar_equip.specs.Digits.digits}
+use Rattle.xbar_equip.specs.{Len.{Line, is_line, line_text}, Ten.{TrunkPlace, is_trunk_place, place_text}, Link.{Link, is_link, link_text}, DirNo.dir_no_text}
+use Rattle.xbar_equip.proofs.{Logic.{both, both_hold}, Ranges.{place_in_range, line_in_range, link_in_range}}
+use Rattle.xbar_plan.specs.{Group.{TrunkGroup, kind_eq, places, is_intra}, Tables.{Station, Route}, Lawful.{is_between, is_name, is_name_character}}
+use Rattle.xbar_plan.specs.{Lawful.{has_its_places, is_well_formed_group, are_distinct, are_names_distinct, group_places}, declared.group.GroupKind.GroupKind}
+use Rattle.xbar_plan.{specs.declared.group.{GroupKind.TheVariants.{Register, Intra, Outgoing}, Member.Member}, proofs.Lists.{position-none, position-some}}
+use Rattle.{xbar_plan.proofs.Distinct.{item_passes, one_giver}, xbar_plan_text.specs.Texts.{parts, onto_first, read_all, line_of, place_of, number_of, code_of}}
+use Rattle.xbar_plan_text.specs.Texts.{fault_of, member_of, kind_of, name_of, group_of, station_of, CodeEntry, code_entry_of, group_number, route_of_entry}
 use Rattle.xbar_plan_text.specs.Written.{spaced, kind_text, second_text, member_text, group_text, station_text, name_in, name_at, route_text}
-use Rattle.xbar_plan.specs.declared.group.GroupKind.{GroupKind}
-use Rattle.xbar_plan.specs.declared.group.GroupKind.TheVariants.{Register, Intra, Outgoing}
-use Rattle.xbar_plan.specs.declared.group.Member.{Member}
-use Rattle.xbar_plan_text.specs.declared.read.version.Version.TheVariants.{Two}
-use Rattle.xbar_plan.proofs.Lists.{position-none, position-some}
-use Rattle.xbar_plan.proofs.Distinct.{item_passes, one_giver}
-use Rattle.xbar_plan_text.proofs.WhoseText.{lines, places as place_texts, numbers, links, written_reads}
+use Rattle.xbar_plan_text.{specs.declared.read.version.Version.TheVariants.Two, proofs.WhoseText.{lines, places as place_texts, numbers, links, written_reads}}
 
 -- ---- parts
 
@@ -50,14 +35,16 @@ then_space : (text rest : List ℕ) → is_one_part text ≡ true → parts (tex
 then_space [] rest e = refl
 then_space (b ∷ text) rest e =
     let h = both (not (b == 32)) (is_one_part text) e in
-    ap (λ (t : Bool). if t then [] ∷ parts (text ++ 32 ∷ rest) else onto_first b (parts (text ++ 32 ∷ rest))) (not_space b h.0) ∙ ap (onto_first b) (then_space text rest h.1)
+    ap (λ (t : Bool). if t then [] ∷ parts (text ++ 32 ∷ rest) else onto_first b (parts (text ++ 32 ∷ rest))) (not_space b h.0)
+    ∙ ap (onto_first b) (then_space text rest h.1)
 
 no_more : (text : List ℕ) → text ++ [] ≡ text
 no_more [] = refl
 no_more (b ∷ text) = ap (λ (t : List ℕ). b ∷ t) (no_more text)
 
 -- the parts of a text that was joined by spaces
-pub parts-spaced : (first : List ℕ) (others : List (List ℕ)) → is_one_part first ≡ true → list_all is_one_part others ≡ true → parts (spaced first others) ≡ first ∷ others
+pub parts-spaced : (first : List ℕ) (others : List (List ℕ)) → is_one_part first ≡ true → list_all is_one_part others ≡ true
+    → parts (spaced first others) ≡ first ∷ others
 parts-spaced first [] e all = ap parts (no_more first) ∙ one_part first e
 parts-spaced first (next ∷ others) e all =
     let h = both (is_one_part next) (list_all is_one_part others) all in
@@ -66,13 +53,15 @@ parts-spaced first (next ∷ others) e all =
 -- ---- reading back
 
 -- if each item can be read back from its text, so can all
-pub all-read_back : {A : Type 0} (read : List ℕ → Option A) (write : A → List ℕ) (passes : A → Bool) → ((x : A) → passes x ≡ true → read (write x) ≡ Some x) → (xs : List A) → list_all passes xs ≡ true → read_all read (map write xs) ≡ Some xs
+pub all-read_back : {A : Type 0} (read : List ℕ → Option A) (write : A → List ℕ) (passes : A → Bool) → ((x : A) → passes x ≡ true → read (write x) ≡ Some x)
+    → (xs : List A) → list_all passes xs ≡ true → read_all read (map write xs) ≡ Some xs
 all-read_back read write passes back [] all = refl
 all-read_back {A} read write passes back (x ∷ xs) all =
     let h = both (passes x) (list_all passes xs) all in
     rw (back x h.0, all-read_back read write passes back xs h.1)
 
-all-one_part : {A : Type 0} (write : A → List ℕ) (passes : A → Bool) → ((x : A) → passes x ≡ true → is_one_part (write x) ≡ true) → (xs : List A) → list_all passes xs ≡ true → list_all is_one_part (map write xs) ≡ true
+all-one_part : {A : Type 0} (write : A → List ℕ) (passes : A → Bool) → ((x : A) → passes x ≡ true → is_one_part (write x) ≡ true) → (xs : List A)
+    → list_all passes xs ≡ true → list_all is_one_part (map write xs) ≡ true
 all-one_part write passes one [] all = refl
 all-one_part write passes one (x ∷ xs) all =
     let h = both (passes x) (list_all passes xs) all in
@@ -103,7 +92,8 @@ number-solid : (number : ℕ) → is_one_part (dir_no_text number) ≡ true
 number-solid number = rw (digit_solid (number / 1000 % 10), digit_solid (number / 100 % 10), digit_solid (number / 10 % 10), digit_solid (number / 1 % 10))
 
 -- a directory number is read back from its text, in version 2
-pub station-reads : (station : Station) → nat_lt station.number 10000 ≡ true → list_all is_line station.lines ≡ true → station_of Two (station_text station) ≡ Some station
+pub station-reads : (station : Station) → nat_lt station.number 10000 ≡ true → list_all is_line station.lines ≡ true
+    → station_of Two (station_text station) ≡ Some station
 station-reads station number its =
     let solid = all-one_part line_text is_line (λ line e. line-solid line) station.lines its in
     rw (
@@ -137,7 +127,9 @@ first_of first second e = (both (is_trunk_place first) (list_all is_trunk_place 
 second_of : (first second : TrunkPlace) → list_all is_trunk_place (first ∷ second ∷ []) ≡ true → is_trunk_place second ≡ true
 second_of first second e = (both (is_trunk_place second) true ((both (is_trunk_place first) (list_all is_trunk_place (second ∷ [])) e).1)).0
 
-reads_as : (kind : GroupKind) (first : TrunkPlace) (second : Option TrunkPlace) → beq (is_some second) (kind_eq kind Intra) ≡ true → list_all is_trunk_place (first ∷ option_to_list second) ≡ true → member_of kind (place_text first ++ second_text second) ≡ Some (record { first = first; second = second })
+reads_as : (kind : GroupKind) (first : TrunkPlace) (second : Option TrunkPlace) → beq (is_some second) (kind_eq kind Intra) ≡ true
+    → list_all is_trunk_place (first ∷ option_to_list second) ≡ true
+    → member_of kind (place_text first ++ second_text second) ≡ Some (record { first = first; second = second })
 reads_as Intra first None e h = cc
 reads_as Intra first (Some second) e h = rw (place-reads first (first_of first (Some second) h), place-reads second (second_of first second h))
 reads_as Register first None e h = rw (place-reads first (first_of first None h))
@@ -152,7 +144,15 @@ member-reads kind own e =
 
 member-solid : (first : TrunkPlace) (second : Option TrunkPlace) → is_one_part (place_text first ++ second_text second) ≡ true
 member-solid first None = rw (digit_solid first.frame, digit_solid first.switch, digit_solid first.appearance)
-member-solid first (Some second) = rw (digit_solid first.frame, digit_solid first.switch, digit_solid first.appearance, digit_solid second.frame, digit_solid second.switch, digit_solid second.appearance)
+member-solid first (Some second) =
+    rw (
+      digit_solid first.frame,
+      digit_solid first.switch,
+      digit_solid first.appearance,
+      digit_solid second.frame,
+      digit_solid second.switch,
+      digit_solid second.appearance,
+    )
 
 kind-reads : (kind : GroupKind) → kind_of (kind_text kind) ≡ Some kind
 kind-reads Register = refl
@@ -183,10 +183,13 @@ name-reads : (name : List ℕ) → is_name name ≡ true → name_of name ≡ So
 name-reads name e = ap (λ (b : Bool). if b then Some name else None) e
 
 -- a group is read back from its text
-pub group-reads : (group : TrunkGroup) → is_well_formed_group group ≡ true → list_all is_trunk_place (group_places group) ≡ true → group_of (group_text group) ≡ Some group
+pub group-reads : (group : TrunkGroup) → is_well_formed_group group ≡ true → list_all is_trunk_place (group_places group) ≡ true
+    → group_of (group_text group) ≡ Some group
 group-reads group formed range =
     let h = both (is_name group.name) (has_its_places group) formed in
-    let members = all_both (λ (own : Member). beq (is_some own.second) (is_intra group)) (λ (own : Member). list_all is_trunk_place (places own)) group.members h.1 (all_of_flat is_trunk_place places group.members range) in
+    let members =
+    all_both (λ (own : Member). beq (is_some own.second) (is_intra group)) (λ (own : Member). list_all is_trunk_place (places own)) group.members h.1
+    (all_of_flat is_trunk_place places group.members range) in
     let solid = all-one_part member_text (fits group.kind) (λ own e. member-solid own.first own.second) group.members members in
     let others = both_hold (is_one_part (kind_text group.kind)) (list_all is_one_part (map member_text group.members)) (kind-solid group.kind) solid in
     rw (
@@ -236,14 +239,16 @@ there groups number e = of (slice_get groups number) refl where
 named : (groups : List TrunkGroup) (number : ℕ) (group : TrunkGroup) → slice_get groups number ≡ Some group → name_at groups number ≡ group.name
 named groups number group e = ap name_in e
 
-names_at : (groups : List TrunkGroup) → list_all is_well_formed_group groups ≡ true → (numbers : List ℕ) → list_all (λ n. nat_lt n (length groups)) numbers ≡ true → list_all is_name (map (name_at groups) numbers) ≡ true
+names_at : (groups : List TrunkGroup) → list_all is_well_formed_group groups ≡ true → (numbers : List ℕ)
+    → list_all (λ n. nat_lt n (length groups)) numbers ≡ true → list_all is_name (map (name_at groups) numbers) ≡ true
 names_at groups formed [] all = refl
 names_at groups formed (n ∷ ns) all =
     let h = both (nat_lt n (length groups)) (list_all (λ n. nat_lt n (length groups)) ns) all in
     let group = there groups n h.0 in
     let well = item_passes is_well_formed_group groups n group.0 formed group.1 in
     let name = (both (is_name group.0.name) (has_its_places group.0) well).0 in
-    both_hold (is_name (name_at groups n)) (list_all is_name (map (name_at groups) ns)) (ap is_name (named groups n group.0 group.1) ∙ name) (names_at groups formed ns h.1)
+    both_hold (is_name (name_at groups n)) (list_all is_name (map (name_at groups) ns)) (ap is_name (named groups n group.0 group.1) ∙ name)
+    (names_at groups formed ns h.1)
 
 -- if names are distinct, the name of a group is that of no other
 bytes_eq-itself : (name : List ℕ) → bytes_eq name name ≡ true
@@ -253,7 +258,8 @@ as_flat : (groups : List TrunkGroup) → flat_map (λ group. group.name ∷ []) 
 as_flat [] = refl
 as_flat (group ∷ groups) = ap (λ (names : List (List ℕ)). group.name ∷ names) (as_flat groups)
 
-number-of_name : (groups : List TrunkGroup) → are_names_distinct groups ≡ true → (n : ℕ) → nat_lt n (length groups) ≡ true → group_number groups (name_at groups n) ≡ n
+number-of_name : (groups : List TrunkGroup) → are_names_distinct groups ≡ true → (n : ℕ) → nat_lt n (length groups) ≡ true
+    → group_number groups (name_at groups n) ≡ n
 number-of_name groups once n e = of (position (λ group. bytes_eq group.name (name_at groups n)) groups) refl where
   it : (group : TrunkGroup) × (slice_get groups n ≡ Some group)
   it = there groups n e
@@ -263,17 +269,23 @@ number-of_name groups once n e = of (position (λ group. bytes_eq group.name (na
 
   of : (o : Option ℕ) → position (λ group. bytes_eq group.name (name_at groups n)) groups ≡ o → unwrap_or o (length groups) ≡ n
   of None none =
-      let fails = subst (λ (o : Option TrunkGroup). IfSome o (λ group. bytes_eq group.name (name_at groups n) ≡ false)) it.1 (position-none (λ group. bytes_eq group.name (name_at groups n)) groups none n) in
+      let fails =
+      subst (λ (o : Option TrunkGroup). IfSome o (λ group. bytes_eq group.name (name_at groups n) ≡ false)) it.1
+      (position-none (λ group. bytes_eq group.name (name_at groups n)) groups none n) in
       let no : true ≡ false = sym same ∙ fails in
       cc
   of (Some j) found =
       let within = (position-Some (λ group. bytes_eq group.name (name_at groups n)) groups j it.0 found).0 in
       let other = there groups j (lt-ltb j (length groups) within) in
-      let passes = subst (λ (o : Option TrunkGroup). IsSomeAnd o (λ group. bytes_eq group.name (name_at groups n) ≡ true)) other.1 (position-some (λ group. bytes_eq group.name (name_at groups n)) j groups found) in
+      let passes =
+      subst (λ (o : Option TrunkGroup). IsSomeAnd o (λ group. bytes_eq group.name (name_at groups n) ≡ true)) other.1
+      (position-some (λ group. bytes_eq group.name (name_at groups n)) j groups found) in
       let its : other.0.name ≡ name_at groups n = (bytes_eq-Decides other.0.name (name_at groups n)).0 passes in
-      one_giver bytes_eq bytes_eq-itself (λ group. group.name ∷ []) groups j n other.0 it.0 (name_at groups n) (ap (are_distinct bytes_eq) (as_flat groups) ∙ once) other.1 it.1 (inl (sym its)) (inl (named groups n it.0 it.1))
+      one_giver bytes_eq bytes_eq-itself (λ group. group.name ∷ []) groups j n other.0 it.0 (name_at groups n)
+      (ap (are_distinct bytes_eq) (as_flat groups) ∙ once) other.1 it.1 (inl (sym its)) (inl (named groups n it.0 it.1))
 
-numbers-back : (groups : List TrunkGroup) → are_names_distinct groups ≡ true → (ns : List ℕ) → list_all (λ n. nat_lt n (length groups)) ns ≡ true → map (group_number groups) (map (name_at groups) ns) ≡ ns
+numbers-back : (groups : List TrunkGroup) → are_names_distinct groups ≡ true → (ns : List ℕ) → list_all (λ n. nat_lt n (length groups)) ns ≡ true
+    → map (group_number groups) (map (name_at groups) ns) ≡ ns
 numbers-back groups once [] all = refl
 numbers-back groups once (n ∷ ns) all =
     let h = both (nat_lt n (length groups)) (list_all (λ n. nat_lt n (length groups)) ns) all in
@@ -286,7 +298,8 @@ entry_in groups route = record { code = route.code; names = map (name_at groups)
 code-solid : (code : ℕ) → is_one_part (digits 3 code) ≡ true
 code-solid code = rw (digit_solid (code / 100 % 10), digit_solid (code / 10 % 10), digit_solid (code / 1 % 10))
 
-pub entry-reads : (groups : List TrunkGroup) → list_all is_well_formed_group groups ≡ true → (route : Route) → nat_lt route.code 1000 ≡ true → list_all (λ n. nat_lt n (length groups)) route.groups ≡ true → code_entry_of (route_text groups route) ≡ Some (entry_in groups route)
+pub entry-reads : (groups : List TrunkGroup) → list_all is_well_formed_group groups ≡ true → (route : Route) → nat_lt route.code 1000 ≡ true
+    → list_all (λ n. nat_lt n (length groups)) route.groups ≡ true → code_entry_of (route_text groups route) ≡ Some (entry_in groups route)
 entry-reads groups formed route code known =
     let names = names_at groups formed route.groups known in
     rw (
@@ -295,5 +308,6 @@ entry-reads groups formed route code known =
       names-read (map (name_at groups) route.groups) names,
     )
 
-pub route-back : (groups : List TrunkGroup) → are_names_distinct groups ≡ true → (route : Route) → list_all (λ n. nat_lt n (length groups)) route.groups ≡ true → route_of_entry groups (entry_in groups route) ≡ route
+pub route-back : (groups : List TrunkGroup) → are_names_distinct groups ≡ true → (route : Route) → list_all (λ n. nat_lt n (length groups)) route.groups ≡ true
+    → route_of_entry groups (entry_in groups route) ≡ route
 route-back groups once route known = λ i. record { code = route.code; groups = numbers-back groups once route.groups known i }

@@ -1,16 +1,9 @@
-use Rattle.std.proofs.Common.{◌≡◌, ◌≤◌, ℕ, true, List, [], ◌∷◌, length, take, map, String, Global, Ordering, Less, Equal, Greater, string_bytes, refl, ◌∙◌, ap, arith}
-use Rattle.std.proofs.lemmas.List.{take_all}
-use Rattle.std.proofs.lemmas.Str.{IsUtf8-string_bytes}
-use Rattle.std.specs.Str.{IsUtf8}
-use Rattle.std.specs.Ordering.{is_lt, match_ordering}
-use Rattle.std.specs.String.{string_cmp}
-use Rattle.std.specs.BTreeMap.{insert_entry}
-use Rattle.toml.specs.Data.{Data, string, array, Items, member, is_before, items_depth, members_depth}
-use Rattle.toml.specs.View.{view, items_of, items_view, members_view}
-use Rattle.toml.specs.declared.value.Value.{Value}
-use Rattle.xbar_plan.specs.Tables.{Tables}
-use Rattle.xbar_plan_text.specs.Written.{array_of, document_in_version_2, group_text, station_text, route_text}
-use Rattle.xbar_equip.specs.Link.{link_text}
+use Rattle.std.proofs.Common.{◌≡◌, ◌≤◌, ℕ, true, List, [], ◌∷◌, length, take, map, String, Global, Ordering, Less, Equal, Greater, string_bytes, refl, ◌∙◌, ap}
+use Rattle.std.proofs.Common.{arith, take_all, IsUtf8, is_lt, string_cmp}
+use Rattle.std.{proofs.lemmas.Str.IsUtf8-string_bytes, specs.{Ordering.match_ordering, BTreeMap.insert_entry}}
+use Rattle.toml.specs.{Data.{Data, string, array, Items, member, is_before, items_depth, members_depth}, View.{view, items_of, items_view, members_view}}
+use Rattle.{toml.specs.declared.value.Value.Value, xbar_plan.specs.Tables.Tables}
+use Rattle.{xbar_plan_text.specs.Written.{array_of, document_in_version_2, group_text, station_text, route_text}, xbar_equip.specs.Link.link_text}
 
 abbrev Entry : Type 0
 Entry = String Global × Value
@@ -30,14 +23,16 @@ put_before (e ∷ es) k name v same before =
     ∙ ap (λ (n : List ℕ). member n (view v) (members_view (e ∷ es))) same
 
 -- an array of values with these texts
-pub array_seen : {A : Type 0} (f : A → List ℕ) (vs : List Value) (xs : List A) → map view vs ≡ map (λ x. string (f x)) xs → items_view vs ≡ items_of (map (λ text. string text) (map f xs))
+pub array_seen : {A : Type 0} (f : A → List ℕ) (vs : List Value) (xs : List A) → map view vs ≡ map (λ x. string (f x)) xs
+    → items_view vs ≡ items_of (map (λ text. string text) (map f xs))
 array_seen {A} f vs xs seen = ap items_of (seen ∙ both xs) where
   both : (ys : List A) → map (λ y. string (f y)) ys ≡ map (λ text. string text) (map f ys)
   both [] = refl
   both (y ∷ ys) = ap (λ (ds : List Data). string (f y) ∷ ds) (both ys)
 
 -- an array of values with the texts of all items
-pub array_listed : {A : Type 0} (f : A → List ℕ) (vs : List Value) (xs : List A) (i : ℕ) → length xs ≤ i → map view vs ≡ map (λ x. string (f x)) (take i xs) → array (items_view vs) ≡ array_of (map f xs)
+pub array_listed : {A : Type 0} (f : A → List ℕ) (vs : List Value) (xs : List A) (i : ℕ) → length xs ≤ i → map view vs ≡ map (λ x. string (f x)) (take i xs)
+    → array (items_view vs) ≡ array_of (map f xs)
 array_listed {A} f vs xs i past seen =
     ap (λ (ds : Items). array ds) (array_seen f vs xs (seen ∙ ap (λ (ys : List A). map (λ x. string (f x)) ys) (take_all i xs past)))
 
@@ -48,7 +43,12 @@ flat (text ∷ texts) = rw (flat texts)
 -- a plan's document has arrays that contain only strings
 pub document_is_shallow : (plan : Tables) → members_depth (document_in_version_2 plan) ≤ 80
 document_is_shallow plan =
-    rw (flat (map (route_text plan.groups) plan.routes), flat (map link_text plan.faults), flat (map group_text plan.groups), flat (map station_text plan.stations)) (omega arith)
+    rw (
+      flat (map (route_text plan.groups) plan.routes),
+      flat (map link_text plan.faults),
+      flat (map group_text plan.groups),
+      flat (map station_text plan.stations),
+    ) (omega arith)
 
 -- the bytes of a string are UTF-8
 pub bytes_are_text : (s : String Global) → IsUtf8 (string_bytes s)

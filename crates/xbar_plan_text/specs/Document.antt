@@ -146,13 +146,6 @@ version_in bytes = option_and_then version_of (document_of bytes)
 unfoldable pub plan_of : List ℕ → Result Tables PlanFault
 plan_of bytes = needs fault.NotToml (document_of bytes) plan_of_document
 
--- a right result of a stage: the expected value, or the stage's fault if there is no value, or
--- that memory ran out
-abbrev pub IsStage : {A B : Type 0} → PlanFault → (B → A) → Option A → Result B PlanFault → Type 0
-IsStage told seen wanted result =
-    MatchResult result (λ found. wanted ≡ Some (seen found))
-    (λ refusal. (refusal ≡ fault.Memory) ⊎ ((refusal ≡ told) × (wanted ≡ None)))
-
 -- a right result of reading a plan: the expected tables or fault, or that memory ran out
 abbrev pub IsReading : Result Tables PlanFault → Result Tables PlanFault → Type 0
 IsReading wanted result =

@@ -1,3 +1,4 @@
 pub mod Texts
 pub mod Document
 pub mod Written
+pub mod Refusal

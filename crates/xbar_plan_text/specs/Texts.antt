@@ -1,4 +1,4 @@
-use Rattle.std.specs.Prelude.{◌≡◌, ◌⊎◌, Result, MatchResult, min, ℕ, ◌+◌, ◌-◌, ◌*◌, ◌&&◌, ◌==◌, ◌<◌, nat_lt, Bool, true, if◌then◌else◌, Option, Some, None, option_map, option_and_then, unwrap_or, position, List, [], ◌∷◌, length, take, drop, map, slice_index, bytes_eq, codes}
+use Rattle.std.specs.Prelude.{◌≡◌, min, ℕ, ◌+◌, ◌-◌, ◌*◌, ◌&&◌, ◌==◌, ◌<◌, nat_lt, Bool, true, if◌then◌else◌, Option, Some, None, option_map, option_and_then, unwrap_or, position, List, [], ◌∷◌, length, take, drop, map, slice_index, bytes_eq, codes}
 use Rattle.std.specs.Char.{is_ascii_digit}
 use Rattle.xbar_equip.specs.Len.{Line, is_line, line_text}
 use Rattle.xbar_equip.specs.Ten.{TrunkPlace, is_trunk_place, place_text}
@@ -9,8 +9,6 @@ use Rattle.xbar_equip.specs.declared.link.LinkKind.TheVariants.{LineLink, Juncto
 use Rattle.xbar_plan.specs.Group.{TrunkGroup}
 use Rattle.xbar_plan.specs.Tables.{Station, Route}
 use Rattle.xbar_plan.specs.Lawful.{is_name}
-use Rattle.xbar_plan.specs.declared.fault.PlanFault.{PlanFault}
-use Rattle.xbar_plan.specs.declared.fault.PlanFault.TheVariants.{Malformed, Memory}
 use Rattle.xbar_plan.specs.declared.group.GroupKind.{GroupKind}
 use Rattle.xbar_plan.specs.declared.group.GroupKind.TheVariants.{Register, Intra, Outgoing}
 use Rattle.xbar_plan.specs.declared.group.Member.{Member}
@@ -171,13 +169,6 @@ fault_of text = whose_text is_link link_text text
       at = digit_at text 3;
       channel = digit_at text 4;
     })
-
--- a right result of reading an item: the expected value, or Malformed if there is none, or that
--- memory ran out
-abbrev pub IsReadAs : {A B : Type 0} → (B → A) → Option A → Result B PlanFault → Type 0
-IsReadAs seen wanted result =
-    MatchResult result (λ read. wanted ≡ Some (seen read))
-    (λ told. (told ≡ Memory) ⊎ ((told ≡ Malformed) × (wanted ≡ None)))
 
 -- ---- names
 

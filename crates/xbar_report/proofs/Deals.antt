@@ -1,9 +1,7 @@
 use Rattle.std.proofs.Common.{◌≡◌, ◌<◌, ◌+◌, ℕ, suc, List, [], ◌∷◌, ◌++◌, length, map, take, drop, get_or, set, refl, sym, ap, ◌∙◌, arith, append_assoc}
-use Rattle.std.proofs.lemmas.List.{get_or_at, length-take-le, take_more, drop_more, set_at}
-use Rattle.xbar_office.specs.declared.reply.Card.{Card}
-use Rattle.xbar_office.specs.declared.reply.Record.{Record}
-use Rattle.xbar_report.specs.Dealt.{dealt_records, left_of, own_count_of, with_cards}
-use Rattle.xbar_report.specs.declared.trouble_line.TroubleLine.{TroubleLine}
+use Rattle.std.proofs.Common.{length-take-le}
+use Rattle.{std.proofs.lemmas.List.{get_or_at, take_more, drop_more, set_at}, xbar_office.specs.declared.reply.{Card.Card, Record.Record}}
+use Rattle.xbar_report.specs.{Dealt.{dealt_records, left_of, own_count_of, with_cards}, declared.trouble_line.TroubleLine.TroubleLine}
 
 -- one more record takes its cards
 pub dealt_more : (rs : List Record) (r : Record) (cards : List TroubleLine)
@@ -41,7 +39,8 @@ with_given r given = record r { reply = record r.reply { cards = given } }
 pub deal_step : (old now : List Record) (cards rest own others : List TroubleLine) (given : List Card) (i count : ℕ) (seen : Record) → i < length old
     → now ≡ dealt_records (take i old) cards ++ drop i old → rest ≡ left_of (take i old) cards → count ≡ own_count_of (get_or now i seen) rest
     → own ≡ take count rest → others ≡ drop count rest → given ≡ map (λ t. t.card) own
-    → (set now i (with_given (get_or now i seen) given) ≡ dealt_records (take (i + 1) old) cards ++ drop (i + 1) old) × (others ≡ left_of (take (i + 1) old) cards)
+    → (set now i (with_given (get_or now i seen) given) ≡ dealt_records (take (i + 1) old) cards ++ drop (i + 1) old)
+    × (others ≡ left_of (take (i + 1) old) cards)
 deal_step old now cards rest own others given i count seen within is rest_is count_is own_is others_is given_is =
     let x = get_or old i seen in
     let front = dealt_records (take i old) cards in
@@ -59,7 +58,8 @@ deal_step old now cards rest own others given i count seen within is rest_is cou
     let y = with_cards x (take (own_count_of x left) left) in
     let all : set now i (with_given (get_or now i seen) given) ≡ front ++ y ∷ drop (i + 1) old =
     ap (set now i) written ∙ ap (λ (l : List Record). set l i y) cells ∙ set_at front x (drop (i + 1) old) y i size in
-    let wanted : dealt_records (take (i + 1) old) cards ≡ front ++ y ∷ [] = ap (λ (rs : List Record). dealt_records rs cards) more ∙ dealt_more (take i old) x cards in (
+    let wanted : dealt_records (take (i + 1) old) cards ≡ front ++ y ∷ [] =
+    ap (λ (rs : List Record). dealt_records rs cards) more ∙ dealt_more (take i old) x cards in (
       all ∙ sym (ap (λ (l : List Record). l ++ drop (i + 1) old) wanted ∙ append_assoc front (y ∷ []) (drop (i + 1) old)),
       gone ∙ sym (ap (λ (rs : List Record). left_of rs cards) more ∙ left_more (take i old) x cards),
     )

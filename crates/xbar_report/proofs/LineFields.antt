@@ -1,27 +1,13 @@
-use Rattle.std.proofs.Common.{◌≡◌, ◌<◌, ◌/◌, ◌%◌, ◌^◌, ℕ, zero, suc, Bool, true, false, List, [], ◌∷◌, ◌++◌, refl, ap, subst, arith, append_assoc}
-use Rattle.std.specs.Prelude.{◌==◌, not, Option, Some, None, codes, decimal}
-use Rattle.std.specs.List.{list_all}
-use Rattle.std.specs.Char.{digit_value}
-use Rattle.std.specs.Str.Parse.{AllDigits, digits_value}
-use Rattle.std.proofs.lemmas.Str.Parse.{IsNumeralModel, numerals_by_value, tells_digits}
-use Rattle.std.proofs.lemmas.Fmt.{digits_decimal}
-use borrow.Author.Tests.{eqb-true, ne_eqb}
-use Rattle.xbar_equip.proofs.Logic.{both_hold}
-use Rattle.xbar_equip.specs.Digits.{digit, digits}
-use Rattle.xbar_equip.specs.Len.{Line, line_text}
-use Rattle.xbar_equip.specs.Link.{Link, link_text, letters}
-use Rattle.xbar_equip.specs.Path.{path_text}
-use Rattle.xbar_equip.specs.declared.link.LinkKind.{LinkKind}
-use Rattle.xbar_equip.specs.declared.link.LinkKind.TheVariants.{LineLink, Junctor, TrunkLink}
-use Rattle.xbar_equip.specs.declared.path.Path.{Path}
-use Rattle.xbar_office.specs.declared.job.Job.{Job}
-use Rattle.xbar_office.specs.declared.job.Job.TheVariants.{Dial, Complete, Release}
-use Rattle.xbar_office.specs.declared.reply.End.{End}
-use Rattle.xbar_office.specs.declared.reply.End.TheVariants.{DialTone, Connected, Released, CalledBusy, LineBusy, RegistersBusy, TrunksBusy, NoPath, Trouble, VacantCode, VacantNumber, NoRegister, NoCall}
-use Rattle.xbar_report.specs.Parts.{job_kind, job_line, job_dialled, end_name, end_trial, end_first, end_second}
-use Rattle.xbar_report.specs.Ranges.{IsEnd}
-use Rattle.xbar_equip.specs.TextLines.{Lacks}
-use Rattle.xbar_report.specs.Text.{line_with, job_fields, end_fields, path_field}
+use Rattle.std.proofs.Common.{◌≡◌, ◌<◌, ◌/◌, ◌%◌, ◌^◌, ℕ, zero, suc, Bool, true, false, List, [], ◌∷◌, ◌++◌, refl, ap, subst, arith, append_assoc, ◌==◌, not}
+use Rattle.std.proofs.Common.{Option, Some, None, codes, decimal, eqb-true, ne_eqb}
+use Rattle.std.specs.{List.list_all, Char.digit_value, Str.Parse.{AllDigits, digits_value}}
+use Rattle.{std.proofs.lemmas.{Str.Parse.{IsNumeralModel, numerals_by_value, tells_digits}, Fmt.digits_decimal}, xbar_equip.proofs.Logic.both_hold}
+use Rattle.xbar_equip.specs.{Digits.{digit, digits}, Len.{Line, line_text}, Link.{Link, link_text, letters}, Path.path_text, declared.link.LinkKind.LinkKind}
+use Rattle.xbar_equip.specs.{declared.{link.LinkKind.TheVariants.{LineLink, Junctor, TrunkLink}, path.Path.Path}, TextLines.Lacks}
+use Rattle.xbar_office.specs.declared.{job.Job.{Job, TheVariants.{Dial, Complete, Release}}, reply.End.{End, TheVariants.{DialTone, Connected, Released}}}
+use Rattle.xbar_office.specs.declared.reply.End.TheVariants.{CalledBusy, LineBusy, RegistersBusy, TrunksBusy, NoPath, Trouble, VacantCode, VacantNumber}
+use Rattle.{xbar_office.specs.declared.reply.End.TheVariants.{NoRegister, NoCall}, xbar_report.specs.Parts.{job_kind, job_line, job_dialled, end_name}}
+use Rattle.xbar_report.specs.{Parts.{end_trial, end_first, end_second}, Ranges.IsEnd, Text.{line_with, job_fields, end_fields, path_field}}
 
 -- one more byte that is another
 more : (byte x : ℕ) (rest : List ℕ) → not (x == byte) ≡ true → Lacks byte rest → Lacks byte (x ∷ rest)

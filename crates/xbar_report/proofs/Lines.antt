@@ -1,20 +1,9 @@
-use Rattle.std.proofs.Common.{◌≡◌, ℕ, true, List, [], ◌∷◌, ◌++◌, map, refl, ap, ◌∙◌, arith}
-use Rattle.std.specs.Prelude.{◌==◌, not, codes, decimal, flat_map}
-use Rattle.std.specs.List.{AllByRecursion}
-use Rattle.std.proofs.lemmas.List.Folds.{list_all-append}
-use Rattle.xbar_equip.proofs.Logic.{both_hold}
-use Rattle.xbar_equip.proofs.WholeLines.{lines_of_nothing, whole_line_first}
-use Rattle.xbar_office.specs.declared.job.Job.{Job}
-use Rattle.xbar_office.specs.declared.job.Job.TheVariants.{Dial, Complete, Release}
-use Rattle.xbar_office.specs.declared.reply.End.{End}
-use Rattle.xbar_office.specs.declared.reply.End.TheVariants.{DialTone, Connected, Released}
-use Rattle.xbar_report.specs.Line.{IsLine, line_text}
-use Rattle.xbar_report.specs.Parts.{job_kind, job_line, job_dialled, end_name, end_trial, end_first, end_second}
-use Rattle.xbar_report.specs.Ranges.{IsEnd}
-use Rattle.xbar_equip.specs.TextLines.{IsWholeLine, Lacks, lines}
-use Rattle.xbar_report.specs.Text.{fields, line_with, job_fields, end_fields}
-use Rattle.xbar_report.specs.declared.line.Line.{Line}
-use Rattle.xbar_report.specs.declared.line.Line.TheVariants.{Record, Trouble, Paths, Closed}
+use Rattle.std.proofs.Common.{◌≡◌, ℕ, true, List, [], ◌∷◌, ◌++◌, map, refl, ap, ◌∙◌, arith, ◌==◌, not, codes, decimal, flat_map}
+use Rattle.std.{specs.List.AllByRecursion, proofs.lemmas.List.Folds.list_all-append}
+use Rattle.xbar_equip.{proofs.{Logic.both_hold, WholeLines.{lines_of_nothing, whole_line_first}}, specs.TextLines.{IsWholeLine, Lacks, lines}}
+use Rattle.xbar_office.specs.declared.{job.Job.{Job, TheVariants.{Dial, Complete, Release}}, reply.End.{End, TheVariants.{DialTone, Connected, Released}}}
+use Rattle.xbar_report.specs.{Line.{IsLine, line_text}, Parts.{job_kind, job_line, job_dialled, end_name, end_trial, end_first, end_second}, Ranges.IsEnd}
+use Rattle.xbar_report.specs.{Text.{fields, line_with, job_fields, end_fields}, declared.line.Line.{Line, TheVariants.{Record, Trouble, Paths, Closed}}}
 use Rattle.xbar_report.proofs.LineFields.{decimal_has_no_end, job_line_lacks, job_dialled_lacks, link_lacks, first_lacks, second_lacks}
 
 lacks_append : (byte : ℕ) (a b : List ℕ) → Lacks byte a → Lacks byte b → Lacks byte (a ++ b)
@@ -32,18 +21,32 @@ whole_with texts h = record { front = fields texts; lacks = lacks_fields texts h
 job_lacks : (job : Job) → Lacks 10 (job_fields job)
 job_lacks (Dial line) = lacks_fields (job_kind (Dial line) ∷ job_line (Dial line) ∷ job_dialled (Dial line) ∷ [])
     (refl, (job_line_lacks 10 (Dial line) (omega arith), (job_dialled_lacks 10 (Dial line) (omega arith), tt)))
-job_lacks (Complete line dialled) = lacks_fields (job_kind (Complete line dialled) ∷ job_line (Complete line dialled) ∷ job_dialled (Complete line dialled) ∷ [])
+job_lacks (Complete line dialled) =
+    lacks_fields (job_kind (Complete line dialled) ∷ job_line (Complete line dialled) ∷ job_dialled (Complete line dialled) ∷ [])
     (refl, (job_line_lacks 10 (Complete line dialled) (omega arith), (job_dialled_lacks 10 (Complete line dialled) (omega arith), tt)))
 job_lacks (Release line) = lacks_fields (job_kind (Release line) ∷ job_line (Release line) ∷ job_dialled (Release line) ∷ [])
     (refl, (job_line_lacks 10 (Release line) (omega arith), (job_dialled_lacks 10 (Release line) (omega arith), tt)))
 
 end_lacks : (end : End) → IsEnd end → Lacks 10 (end_fields end)
-end_lacks (DialTone path trial) h = lacks_fields (end_name (DialTone path trial) ∷ end_trial (DialTone path trial) ∷ end_first (DialTone path trial) ∷ end_second (DialTone path trial) ∷ [])
-    (refl, (decimal_has_no_end trial (omega (arith, h.1)), (first_lacks 10 (DialTone path trial) (omega arith), (second_lacks 10 (DialTone path trial) (omega arith), tt))))
+end_lacks (DialTone path trial) h =
+    lacks_fields (end_name (DialTone path trial) ∷ end_trial (DialTone path trial) ∷ end_first (DialTone path trial) ∷ end_second (DialTone path trial) ∷ []) (
+      refl,
+      (
+        decimal_has_no_end trial (omega (arith, h.1)),
+        (first_lacks 10 (DialTone path trial) (omega arith), (second_lacks 10 (DialTone path trial) (omega arith), tt)),
+      ),
+    )
 end_lacks (Connected calling called trial) h =
-    lacks_fields (end_name (Connected calling called trial) ∷ end_trial (Connected calling called trial) ∷ end_first (Connected calling called trial) ∷ end_second (Connected calling called trial) ∷ [])
-    (refl, (decimal_has_no_end trial (omega (arith, h.2)), (first_lacks 10 (Connected calling called trial) (omega arith), (second_lacks 10 (Connected calling called trial) (omega arith), tt))))
-end_lacks (Released own other) h = lacks_fields (end_name (Released own other) ∷ end_trial (Released own other) ∷ end_first (Released own other) ∷ end_second (Released own other) ∷ [])
+    lacks_fields (end_name (Connected calling called trial) ∷ end_trial (Connected calling called trial) ∷ end_first (Connected calling called trial)
+    ∷ end_second (Connected calling called trial) ∷ []) (
+      refl,
+      (
+        decimal_has_no_end trial (omega (arith, h.2)),
+        (first_lacks 10 (Connected calling called trial) (omega arith), (second_lacks 10 (Connected calling called trial) (omega arith), tt)),
+      ),
+    )
+end_lacks (Released own other) h =
+    lacks_fields (end_name (Released own other) ∷ end_trial (Released own other) ∷ end_first (Released own other) ∷ end_second (Released own other) ∷ [])
     (refl, (refl, (first_lacks 10 (Released own other) (omega arith), (second_lacks 10 (Released own other) (omega arith), tt))))
 end_lacks _ h = refl
 
@@ -78,4 +81,5 @@ line_text_whole (Closed closed) h = whole_with (codes "CLOSED" ∷ decimal close
 -- a text of lines has these lines
 pub lines_of_lines : (ls : List Line) → AllByRecursion IsLine ls → lines (flat_map line_text ls) ≡ map line_text ls
 lines_of_lines [] h = lines_of_nothing
-lines_of_lines (l ∷ ls) h = whole_line_first (line_text l) (flat_map line_text ls) (line_text_whole l h.0) ∙ ap (λ (more : List (List ℕ)). line_text l ∷ more) (lines_of_lines ls h.1)
+lines_of_lines (l ∷ ls) h =
+    whole_line_first (line_text l) (flat_map line_text ls) (line_text_whole l h.0) ∙ ap (λ (more : List (List ℕ)). line_text l ∷ more) (lines_of_lines ls h.1)

@@ -1,16 +1,8 @@
-use Rattle.std.proofs.Common.{◌≡◌, ℕ, zero, suc, List, [], ◌∷◌, ◌++◌, map, take, refl, sym, ap, ◌∙◌}
-use Rattle.std.specs.Prelude.{Option, Some, None}
-use Rattle.xbar_office.specs.declared.reply.Record.{Record as TheRecord}
-use Rattle.xbar_report.specs.Bare.{bare_line}
-use Rattle.xbar_report.specs.Draft.{stage_behind, tally_lines}
-use Rattle.xbar_report.specs.Line.{lines_of_sheet, lines_of_counts, next_stage, Stage, AtRecords, AtCards, AtPaths, AtEnd}
-use Rattle.xbar_report.specs.Sheet.{Sheet}
-use Rattle.xbar_report.specs.declared.counts.Counts.{Counts}
-use Rattle.xbar_report.specs.declared.draft.Tally.{Tally}
-use Rattle.xbar_report.specs.declared.draft.Tally.TheVariants.{Missing, Begun, Whole}
-use Rattle.xbar_report.specs.declared.line.Line.{Line}
-use Rattle.xbar_report.specs.declared.line.Line.TheVariants.{Record, Trouble, Paths, Closed}
-use Rattle.xbar_report.specs.declared.trouble_line.TroubleLine.{TroubleLine}
+use Rattle.std.proofs.Common.{◌≡◌, ℕ, zero, suc, List, [], ◌∷◌, ◌++◌, map, take, refl, sym, ap, ◌∙◌, Option, Some, None}
+use Rattle.{xbar_office.specs.declared.reply.Record.{Record as TheRecord}, xbar_report.specs.{Bare.bare_line, Draft.{stage_behind, tally_lines}}}
+use Rattle.xbar_report.specs.{Line.{lines_of_sheet, lines_of_counts, next_stage, Stage, AtRecords, AtCards, AtPaths, AtEnd}, Sheet.Sheet}
+use Rattle.xbar_report.specs.declared.{counts.Counts.Counts, draft.Tally.{Tally, TheVariants.{Missing, Begun, Whole}}, line.Line.Line}
+use Rattle.xbar_report.specs.declared.{line.Line.TheVariants.{Record, Trouble, Paths, Closed}, trouble_line.TroubleLine.TroubleLine}
 
 -- the stage after these lines, if each may come
 abbrev pub stage_after : Option Stage → List Line → Option Stage
@@ -24,7 +16,8 @@ stage_after-append (Some stage) [] ys = refl
 stage_after-append (Some stage) (x ∷ xs) ys = stage_after-append (next_stage stage x) xs ys
 
 -- the first lines of those that may come may come
-pub stage_after-take : (at : Option Stage) (n : ℕ) (ls : List Line) (end : Stage) → stage_after at ls ≡ Some end → (stage : Stage) × (stage_after at (take n ls) ≡ Some stage)
+pub stage_after-take : (at : Option Stage) (n : ℕ) (ls : List Line) (end : Stage) → stage_after at ls ≡ Some end
+    → (stage : Stage) × (stage_after at (take n ls) ≡ Some stage)
 stage_after-take None n ls end e = absurd (let none : ◌≡◌ {A = Option Stage} None (Some end) = e in cc)
 stage_after-take (Some stage) zero ls end e = (stage, refl)
 stage_after-take (Some stage) (suc n) [] end e = (stage, refl)
@@ -52,7 +45,8 @@ next-bare AtEnd (Closed closed) = refl
 pub stage_after-bare : (at : Option Stage) (ls : List Line) → stage_after at (map bare_line ls) ≡ stage_after at ls
 stage_after-bare None ls = refl
 stage_after-bare (Some stage) [] = refl
-stage_after-bare (Some stage) (l ∷ ls) = ap (λ (at : Option Stage). stage_after at (map bare_line ls)) (next-bare stage l) ∙ stage_after-bare (next_stage stage l) ls
+stage_after-bare (Some stage) (l ∷ ls) =
+    ap (λ (at : Option Stage). stage_after at (map bare_line ls)) (next-bare stage l) ∙ stage_after-bare (next_stage stage l) ls
 
 behind_records : (rs : List TheRecord) → stage_after (Some AtRecords) (map Record rs) ≡ Some AtRecords
 behind_records [] = refl

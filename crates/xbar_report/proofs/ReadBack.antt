@@ -1,26 +1,12 @@
-use Rattle.std.proofs.Common.{◌≡◌, ◌≢◌, ◌+◌, ℕ, List, [], ◌∷◌, ◌++◌, length, map, refl, sym, ap, subst, ◌∙◌}
-use Rattle.std.specs.Prelude.{Option, Some, None, IsSomeAnd, flat_map, slice_get}
-use Rattle.std.proofs.lemmas.List.{append-nil, nil_from_length}
-use Rattle.std.proofs.lemmas.List.Folds.{flat_map-map}
-use Rattle.xbar_office.proofs.AuditedRecords.{never}
-use Rattle.xbar_office.specs.Audit.{IsFirstWrongTurn}
-use Rattle.xbar_office.specs.Legal.{HaveTurns}
-use Rattle.xbar_office.specs.declared.reply.Record.{Record}
-use Rattle.xbar_office.proofs.AuditedRecords.{turn_at}
-use Rattle.xbar_report.specs.Bare.{bare_record}
-use Rattle.xbar_report.specs.Dealt.{dealt_records, left_of}
-use Rattle.xbar_report.specs.Draft.{IsLineFault, IsReadAs}
-use Rattle.xbar_report.specs.Line.{line_text, lines_of_sheet}
-use Rattle.xbar_equip.specs.TextLines.{lines}
-use Rattle.xbar_report.specs.Sheet.{Sheet, sheet_text, IsSheet, IsReport}
-use Rattle.xbar_report.specs.Text.{record_line, trouble_line, count_lines, records_text, troubles_of}
-use Rattle.xbar_report.specs.declared.counts.Counts.{Counts}
-use Rattle.xbar_report.specs.declared.report_fault.ReportFault.{ReportFault}
+use Rattle.std.proofs.Common.{◌≡◌, ◌≢◌, ◌+◌, ℕ, List, [], ◌∷◌, ◌++◌, length, map, refl, sym, ap, subst, ◌∙◌, Option, flat_map, slice_get, append-nil}
+use Rattle.{std.proofs.lemmas.List.{nil_from_length, Folds.flat_map-map}, xbar_office.{proofs.AuditedRecords.{never, turn_at}, specs.Audit.IsFirstWrongTurn}}
+use Rattle.{xbar_office.specs.{Legal.HaveTurns, declared.reply.Record.Record}, xbar_report.specs.{Bare.bare_record, Dealt.{dealt_records, left_of}}}
+use Rattle.xbar_report.specs.{Draft.{IsLineFault, IsReadAs}, Line.{line_text, lines_of_sheet}, Sheet.{Sheet, sheet_text, IsSheet, IsReport}}
+use Rattle.xbar_report.specs.{Text.{record_line, trouble_line, count_lines, records_text, troubles_of}, declared.counts.Counts.Counts}
+use Rattle.xbar_report.{specs.declared.report_fault.ReportFault.ReportFault, proofs.Reports.{dealt_lines, dealt_range, dealt_turns, taken_and_left}}
+use Rattle.xbar_report.proofs.{Sheets.{range_of_sheet, sheet_text_is, texts_are, texts_range}, Uniques.{only_sheet, own_dealt, report_range, report_text_is}}
+use Rattle.{xbar_report.proofs.Uniques.sheet_of, xbar_equip.{specs.TextLines.lines, proofs.WholeLines.joined_lines}}
 use Rattle.xbar_report.specs.declared.report_fault.ReportFault.TheVariants as fault
-use Rattle.xbar_equip.proofs.WholeLines.{joined_lines}
-use Rattle.xbar_report.proofs.Reports.{dealt_lines, dealt_range, dealt_turns, taken_and_left}
-use Rattle.xbar_report.proofs.Sheets.{range_of_sheet, sheet_text_is, texts_are, texts_range}
-use Rattle.xbar_report.proofs.Uniques.{only_sheet, own_dealt, report_range, report_text_is, sheet_of}
 
 -- what was read is a sheet with this text
 pub read_sheet : (text : List ℕ) (s : Sheet) → IsReadAs text s → IsSheet s × (text ≡ sheet_text s)
@@ -47,7 +33,8 @@ record_lines_same (r ∷ rs) (x ∷ rs') e =
     cc
 
 -- which has this text if no card is left
-pub dealt_text : (text : List ℕ) (s : Sheet) → IsReadAs text s → length (left_of s.records s.cards) ≡ 0 → text ≡ records_text (dealt_records s.records s.cards) s.counts
+pub dealt_text : (text : List ℕ) (s : Sheet) → IsReadAs text s → length (left_of s.records s.cards) ≡ 0
+    → text ≡ records_text (dealt_records s.records s.cards) s.counts
 dealt_text text s read none =
     let rs = dealt_records s.records s.cards in
     let left = nil_from_length (left_of s.records s.cards) none in
@@ -89,7 +76,8 @@ no_wrong_turn records place turns wrong =
     never (slice_get records place) (λ r. r.turn ≢ place) wrong.here (λ r here other. other (turn_at records place r turns here))
 
 -- the lines of a report's text have no fault
-pub no_line_fault : (text : List ℕ) (records : List Record) (counts : Option Counts) (why : ReportFault) → IsReport records counts → text ≡ records_text records counts
+pub no_line_fault : (text : List ℕ) (records : List Record) (counts : Option Counts) (why : ReportFault) → IsReport records counts
+    → text ≡ records_text records counts
     → IsLineFault text why → why ≡ fault.Memory
 no_line_fault text records counts (fault.Line number) report is stray =
     absurd (stray.here text (sheet_of records counts, report_range records counts report, is ∙ sym (report_text_is records counts)) refl)

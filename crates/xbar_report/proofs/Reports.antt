@@ -1,18 +1,9 @@
-use Rattle.std.proofs.Common.{◌≡◌, ◌≤◌, ◌+◌, ℕ, zero, suc, Bool, true, false, cond, List, [], ◌∷◌, ◌++◌, length, map, take, drop, refl, sym, ap, ◌∙◌, arith, append_assoc}
-use Rattle.std.specs.Prelude.{◌==◌, flat_map}
-use Rattle.std.specs.List.{AllByRecursion}
-use Rattle.std.proofs.lemmas.List.{length-map, length-take, take-append-drop}
-use borrow.Author.Tests.{eqb-true, eq-eqb}
-use Rattle.xbar_equip.proofs.Logic.{both, both_hold}
-use Rattle.xbar_office.specs.Legal.{HaveTurns}
-use Rattle.xbar_office.specs.declared.reply.Card.{Card}
-use Rattle.xbar_office.specs.declared.reply.Record.{Record}
-use Rattle.xbar_report.specs.Bare.{bare_record}
-use Rattle.xbar_report.specs.Dealt.{belongs, own_of, own_count_of, with_cards, dealt_records, left_of}
-use Rattle.xbar_report.specs.Ranges.{IsCard, IsRecord, IsTroubleLine}
-use Rattle.xbar_report.specs.Text.{trouble_of, troubles_of}
-use Rattle.xbar_report.specs.declared.trouble_line.TroubleLine.{TroubleLine}
-use Rattle.xbar_report.proofs.Sheets.{all_take}
+use Rattle.std.proofs.Common.{◌≡◌, ◌≤◌, ◌+◌, ℕ, zero, suc, Bool, true, false, cond, List, [], ◌∷◌, ◌++◌, length, map, take, drop, refl, sym, ap, ◌∙◌, arith}
+use Rattle.std.proofs.Common.{append_assoc, ◌==◌, flat_map, length-take, take-append-drop, eqb-true, eq-eqb}
+use Rattle.{std.{specs.List.AllByRecursion, proofs.lemmas.List.length-map}, xbar_equip.proofs.Logic.{both, both_hold}}
+use Rattle.{xbar_office.specs.{Legal.HaveTurns, declared.reply.{Card.Card, Record.Record}}, xbar_report.specs.Bare.bare_record}
+use Rattle.xbar_report.specs.{Dealt.{belongs, own_of, own_count_of, with_cards, dealt_records, left_of}, Ranges.{IsCard, IsRecord, IsTroubleLine}}
+use Rattle.xbar_report.{specs.{Text.{trouble_of, troubles_of}, declared.trouble_line.TroubleLine.TroubleLine}, proofs.Sheets.all_take}
 
 -- a card with a record's turn and job number is that record's
 owner_is : (r : Record) (t : TroubleLine) → belongs r t ≡ true → trouble_of r t.card ≡ t
@@ -85,7 +76,8 @@ all_drop P zero xs h = h
 all_drop P (suc n) [] h = tt
 all_drop P (suc n) (x ∷ xs) h = all_drop P n xs h.1
 
-pub dealt_range : (rs : List Record) (cards : List TroubleLine) → AllByRecursion IsRecord rs → AllByRecursion IsTroubleLine cards → AllByRecursion IsRecord (dealt_records rs cards)
+pub dealt_range : (rs : List Record) (cards : List TroubleLine) → AllByRecursion IsRecord rs → AllByRecursion IsTroubleLine cards
+    → AllByRecursion IsRecord (dealt_records rs cards)
 unfolding dealt_records
 dealt_range [] cards h h2 = tt
 dealt_range (r ∷ rs) cards h h2 =
@@ -93,6 +85,14 @@ dealt_range (r ∷ rs) cards h h2 =
     let own = take k cards in
     let few : length (map (λ t. t.card) own) ≤ 2 =
     (let e = length-map own (λ (t : TroubleLine). t.card) in let e2 = length-take k cards in let le = own_le 2 r cards in omega (arith, e, e2, le.0)) in (
-      record { turn = h.0.turn; marker = h.0.marker; job_no = h.0.job_no; job = h.0.job; end = h.0.end; cards = cards_range own (all_take IsTroubleLine k cards h2); few = few },
+      record {
+        turn = h.0.turn;
+        marker = h.0.marker;
+        job_no = h.0.job_no;
+        job = h.0.job;
+        end = h.0.end;
+        cards = cards_range own (all_take IsTroubleLine k cards h2);
+        few = few;
+      },
       dealt_range rs (drop k cards) h.1 (all_drop IsTroubleLine k cards h2),
     )

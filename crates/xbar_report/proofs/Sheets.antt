@@ -1,20 +1,8 @@
-use Rattle.std.proofs.Common.{◌≡◌, ℕ, zero, suc, List, [], ◌∷◌, ◌++◌, length, map, take, refl, sym, ap, ◌∙◌, append_assoc}
-use Rattle.std.specs.Prelude.{Option, Some, None, IfSome, flat_map}
-use Rattle.std.specs.List.{AllByRecursion}
-use Rattle.std.proofs.lemmas.List.{append-nil, length-map}
-use Rattle.std.proofs.lemmas.Grind.{flat_map-append}
-use Rattle.std.proofs.lemmas.List.Folds.{flat_map-map}
-use Rattle.xbar_report.specs.Bare.{bare_line}
-use Rattle.xbar_report.specs.Draft.{AreTextsOf, IsTextOf}
-use Rattle.xbar_report.specs.Line.{IsLine, line_text, lines_of_sheet, lines_of_counts}
-use Rattle.xbar_report.specs.Ranges.{AreCounts}
-use Rattle.xbar_equip.specs.TextLines.{lines}
-use Rattle.xbar_report.specs.Sheet.{Sheet, sheet_text, IsSheet}
-use Rattle.xbar_report.specs.Text.{record_line, trouble_line, count_lines}
-use Rattle.xbar_report.specs.declared.counts.Counts.{Counts}
-use Rattle.xbar_report.specs.declared.line.Line.{Line}
-use Rattle.xbar_report.specs.declared.line.Line.TheVariants.{Record, Trouble, Paths, Closed}
-use Rattle.xbar_report.proofs.Lines.{lines_of_lines}
+use Rattle.std.proofs.Common.{◌≡◌, ℕ, zero, suc, List, [], ◌∷◌, ◌++◌, length, map, take, refl, sym, ap, ◌∙◌, Option, Some, None, IfSome, flat_map, append-nil}
+use Rattle.{std.{specs.List.AllByRecursion, proofs.lemmas.{List.{length-map, Folds.flat_map-map}, Grind.flat_map-append}}, xbar_report.specs.Bare.bare_line}
+use Rattle.xbar_report.specs.{Draft.{AreTextsOf, IsTextOf}, Line.{IsLine, line_text, lines_of_sheet, lines_of_counts}, Ranges.AreCounts, Sheet.Sheet}
+use Rattle.xbar_report.specs.{Sheet.{sheet_text, IsSheet}, Text.{record_line, trouble_line, count_lines}, declared.{counts.Counts.Counts, line.Line.Line}}
+use Rattle.{xbar_report.{specs.declared.line.Line.TheVariants.{Record, Trouble, Paths, Closed}, proofs.Lines.lines_of_lines}, xbar_equip.specs.TextLines.lines}
 
 -- lists
 
@@ -49,8 +37,10 @@ pub sheet_text_is : (s : Sheet) → sheet_text s ≡ flat_map line_text (lines_o
 sheet_text_is s =
     sym (flat_map-append line_text (map Record s.records ++ map Trouble s.cards) (lines_of_counts s.counts)
     ∙ ap (λ (front : List ℕ). front ++ flat_map line_text (lines_of_counts s.counts)) (flat_map-append line_text (map Record s.records) (map Trouble s.cards))
-    ∙ ap (λ (front : List ℕ). (front ++ flat_map line_text (map Trouble s.cards)) ++ flat_map line_text (lines_of_counts s.counts)) (flat_map-map line_text Record s.records)
-    ∙ ap (λ (middle : List ℕ). (flat_map record_line s.records ++ middle) ++ flat_map line_text (lines_of_counts s.counts)) (flat_map-map line_text Trouble s.cards)
+    ∙ ap (λ (front : List ℕ). (front ++ flat_map line_text (map Trouble s.cards)) ++ flat_map line_text (lines_of_counts s.counts))
+    (flat_map-map line_text Record s.records)
+    ∙ ap (λ (middle : List ℕ). (flat_map record_line s.records ++ middle) ++ flat_map line_text (lines_of_counts s.counts))
+    (flat_map-map line_text Trouble s.cards)
     ∙ ap (λ (rest : List ℕ). (flat_map record_line s.records ++ flat_map trouble_line s.cards) ++ rest) (counts_text s.counts))
 
 counts_range : (counts : Option Counts) → IfSome counts AreCounts → AllByRecursion IsLine (lines_of_counts counts)
@@ -92,7 +82,8 @@ texts_are [] (l ∷ ls) h = absurd h
 texts_are (t ∷ texts) [] h = absurd h
 texts_are (t ∷ texts) (l ∷ ls) h = let e = h.0.text_is in let e2 = texts_are texts ls h.1 in cc
 
-pub texts_more : (texts : List (List ℕ)) (ls : List Line) (t : List ℕ) (l : Line) → AreTextsOf texts ls → IsTextOf t l → AreTextsOf (texts ++ t ∷ []) (ls ++ l ∷ [])
+pub texts_more : (texts : List (List ℕ)) (ls : List Line) (t : List ℕ) (l : Line) → AreTextsOf texts ls → IsTextOf t l
+    → AreTextsOf (texts ++ t ∷ []) (ls ++ l ∷ [])
 texts_more [] [] t l h h2 = (h2, tt)
 texts_more [] (x ∷ ls) t l h h2 = absurd h
 texts_more (x ∷ texts) [] t l h h2 = absurd h

@@ -1,10 +1,6 @@
-use Rattle.std.proofs.Common.{◌≡◌, ◌<◌, ◌+◌, ℕ, suc, Bool, true, false, List, [], ◌∷◌, ◌++◌, length, take, drop, cond, refl, ap, subst, arith}
-use Rattle.std.specs.Prelude.{◌==◌, not, nat_lt, Some, None, position}
-use Rattle.std.specs.List.{list_all, position_or_len}
-use borrow.Author.Tests.{eqb-true, eq-eqb, ltb-true, ltb-false}
-use Rattle.std.proofs.lemmas.List.{take_all}
-use Rattle.xbar_equip.proofs.Logic.{both, both_hold, not_both}
-use Rattle.xbar_equip.specs.TextLines.{Lacks}
+use Rattle.std.proofs.Common.{◌≡◌, ◌<◌, ◌+◌, ℕ, suc, Bool, true, false, List, [], ◌∷◌, ◌++◌, length, take, drop, cond, refl, ap, subst, arith, ◌==◌, not}
+use Rattle.std.proofs.Common.{nat_lt, Some, None, position, eqb-true, eq-eqb, ltb-true, ltb-false, take_all}
+use Rattle.{std.specs.List.{list_all, position_or_len}, xbar_equip.{proofs.Logic.{both, both_hold, not_both}, specs.TextLines.Lacks}}
 
 -- a text is cut at the first byte of a kind: the text before it, and the text from it on
 record IsCutAt (byte : ℕ) (text : List ℕ) (n : ℕ) : Type 0 where

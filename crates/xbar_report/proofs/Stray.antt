@@ -1,27 +1,18 @@
-use Rattle.std.proofs.Common.{◌≡◌, ◌<◌, ◌≤◌, ◌+◌, ◌-◌, ℕ, List, [], ◌∷◌, ◌++◌, length, map, take, refl, sym, ap, subst, ◌∙◌, ◌⊎◌, ◌≢◌, inl, inr, arith, append_assoc}
-use Rattle.std.specs.Prelude.{Option, Some, None}
-use Rattle.std.specs.List.{AllByRecursion}
-use Rattle.std.proofs.lemmas.List.{append-nil, length-map, length-append, length-take, map-append, take_at, take-map, take_all}
-use Rattle.xbar_office.specs.declared.reply.Record.{Record as TheRecord}
-use Rattle.xbar_report.specs.Draft.{AreTextsOf, IsReadAs, IsTextOf, stage_behind, tally_lines}
+use Rattle.std.proofs.Common.{◌≡◌, ◌<◌, ◌≤◌, ◌+◌, ◌-◌, ℕ, List, [], ◌∷◌, ◌++◌, length, map, take, refl, sym, ap, subst, ◌∙◌, ◌⊎◌, ◌≢◌, inl, inr, arith}
+use Rattle.std.proofs.Common.{append_assoc, Option, Some, None, append-nil, length-append, length-take, take_at, take_all}
+use Rattle.std.{specs.List.AllByRecursion, proofs.lemmas.List.{length-map, map-append, take-map}}
+use Rattle.{xbar_office.specs.declared.reply.Record.{Record as TheRecord}, xbar_report.specs.Draft.{AreTextsOf, IsReadAs, IsTextOf, stage_behind, tally_lines}}
 use Rattle.xbar_report.specs.Line.{IsLine, line_text, lines_of_counts, lines_of_sheet, next_stage, Stage, AtRecords, AtPaths}
-use Rattle.xbar_equip.specs.TextLines.{IsWholeLine, Lacks, lines}
-use Rattle.xbar_report.specs.Reading.{HaveSameLines, IsFirstStrayLine}
-use Rattle.xbar_report.specs.Sheet.{Sheet, sheet_text, IsSheetText}
-use Rattle.xbar_report.specs.declared.counts.Counts.{Counts}
-use Rattle.xbar_report.specs.declared.draft.Tally.{Tally}
-use Rattle.xbar_report.specs.declared.draft.Tally.TheVariants.{Missing, Begun, Whole}
-use Rattle.xbar_report.specs.declared.line.Line.{Line}
-use Rattle.xbar_report.specs.declared.line.Line.TheVariants.{Record, Trouble, Closed}
-use Rattle.xbar_report.specs.declared.trouble_line.TroubleLine.{TroubleLine}
-use Rattle.xbar_report.proofs.Order.{next-bare, stage_after, stage_after-append, stage_after-take, stage_after-bare, stage_of_lines, stage_of_sheet}
-use Rattle.xbar_report.proofs.Sheets.{all_append, all_parts, all_take, lines_of_text, sheet_range, range_of_sheet, texts_range, texts_are, texts_only, texts_more, texts_count}
-use Rattle.xbar_equip.proofs.WholeLines.{lines_of_nothing, lines_of_rest, whole_line_first}
-use Rattle.xbar_report.proofs.Lines.{line_text_whole}
-use Rattle.xbar_report.proofs.Splits.{has_byte}
+use Rattle.xbar_report.specs.{Reading.{HaveSameLines, IsFirstStrayLine}, Sheet.{Sheet, sheet_text, IsSheetText}, declared.counts.Counts.Counts}
+use Rattle.xbar_report.specs.declared.{draft.Tally.{Tally, TheVariants.{Missing, Begun, Whole}}, line.Line.{Line, TheVariants.{Record, Trouble, Closed}}}
+use Rattle.xbar_report.{specs.declared.trouble_line.TroubleLine.TroubleLine, proofs.Order.{next-bare, stage_after, stage_after-append, stage_after-take}}
+use Rattle.xbar_report.proofs.{Order.{stage_after-bare, stage_of_lines, stage_of_sheet}, Sheets.{all_append, all_parts, all_take, lines_of_text, sheet_range}}
+use Rattle.xbar_report.proofs.{Sheets.{range_of_sheet, texts_range, texts_are, texts_only, texts_more, texts_count}, Lines.line_text_whole, Splits.has_byte}
+use Rattle.xbar_equip.{specs.TextLines.{IsWholeLine, Lacks, lines}, proofs.WholeLines.{lines_of_nothing, lines_of_rest, whole_line_first}}
 
 -- a list whose image ends in y ends in what gives y
-last_of_map : {A B : Type 0} (f : A → B) (xs : List A) (ys : List B) (y : B) → map f xs ≡ ys ++ y ∷ [] → (front : List A) × (x : A) × (xs ≡ front ++ x ∷ []) × (map f front ≡ ys) × (f x ≡ y)
+last_of_map : {A B : Type 0} (f : A → B) (xs : List A) (ys : List B) (y : B) → map f xs ≡ ys ++ y ∷ []
+    → (front : List A) × (x : A) × (xs ≡ front ++ x ∷ []) × (map f front ≡ ys) × (f x ≡ y)
 last_of_map f [] [] y e = cc
 last_of_map f [] (z ∷ ys) y e = cc
 last_of_map f (x ∷ []) [] y e = ([], x, refl, refl, cc)
@@ -59,7 +50,8 @@ missing_range (Whole counts) = tt
 abbrev pub lines_so_far : List TheRecord → List TroubleLine → Tally → List Line
 lines_so_far rs cs tally = map Record rs ++ map Trouble cs ++ tally_lines tally
 
-sheet_split : (rs : List TheRecord) (cs : List TroubleLine) (tally : Tally) → lines_of_sheet (sheet_with rs cs tally) ≡ lines_so_far rs cs tally ++ missing_line tally
+sheet_split : (rs : List TheRecord) (cs : List TroubleLine) (tally : Tally)
+    → lines_of_sheet (sheet_with rs cs tally) ≡ lines_so_far rs cs tally ++ missing_line tally
 sheet_split rs cs tally =
     ap (λ (counts : List Line). (map Record rs ++ map Trouble cs) ++ counts) (counts_split tally)
     ∙ sym (append_assoc (map Record rs ++ map Trouble cs) (tally_lines tally) (missing_line tally))
@@ -72,7 +64,8 @@ begun_text text done more rs cs tally number split read counted =
     let ls = lines_so_far rs cs tally in
     let s = sheet_with rs cs tally in
     let in_range : AllByRecursion IsLine (lines_of_sheet s) =
-    subst (AllByRecursion IsLine) (sym (sheet_split rs cs tally)) (all_append IsLine ls (missing_line tally) (texts_range done ls read) (missing_range tally)) in
+    subst (AllByRecursion IsLine) (sym (sheet_split rs cs tally))
+    (all_append IsLine ls (missing_line tally) (texts_range done ls read) (missing_range tally)) in
     let range = range_of_sheet s in_range in
     let k : number - 1 ≡ length ls = omega (arith, counted) in
     let count = texts_count done ls read in
@@ -110,7 +103,8 @@ pub line_more : (text rest line behind : List ℕ) (number : ℕ) (ls : List Lin
 line_more text rest line behind number ls l so split whole is =
     record {
       done = so.done ++ line ∷ [];
-      split = so.split ∙ ap (λ (r : List (List ℕ)). so.done ++ r) (ap lines split ∙ whole_line_first line behind whole) ∙ append_move so.done line (lines behind);
+      split =
+          so.split ∙ ap (λ (r : List (List ℕ)). so.done ++ r) (ap lines split ∙ whole_line_first line behind whole) ∙ append_move so.done line (lines behind);
       read = texts_more so.done ls line l so.read is;
       counted = let e = length-append ls (l ∷ []) in let c = so.counted in omega (arith, e, c);
       fits =
@@ -138,7 +132,8 @@ stray_line text line more done ls stage split read at refused other (s, range, i
     let bare = texts_only done ls front read ranges.0 (sym before) in
     let (end, whole, _) = stage_of_sheet s in
     let (some, reached) = stage_after-take (Some AtRecords) n all end whole in
-    let at_front : stage_after (Some AtRecords) front ≡ Some stage = sym (stage_after-bare (Some AtRecords) front) ∙ ap (stage_after (Some AtRecords)) bare ∙ at in
+    let at_front : stage_after (Some AtRecords) front ≡ Some stage =
+    sym (stage_after-bare (Some AtRecords) front) ∙ ap (stage_after (Some AtRecords)) bare ∙ at in
     let none : stage_after (Some AtRecords) (front ++ o ∷ []) ≡ None =
     stage_after-append (Some AtRecords) front (o ∷ []) ∙ ap (λ (a : Option Stage). stage_after a (o ∷ [])) at_front
     ∙ ap (λ (a : Option Stage). stage_after a []) (refused o ranges.1.0 (sym here)) in
@@ -200,7 +195,8 @@ lacks_closed text done ls split read at other (s, range, is) same =
     not_between.whole same_end
 
 -- after the last whole line the text ends, or the next line is stray
-pub stray_end : (text rest : List ℕ) (number : ℕ) (rs : List TheRecord) (cs : List TroubleLine) (tally : Tally) → IsReadSoFar text rest number (lines_so_far rs cs tally)
+pub stray_end : (text rest : List ℕ) (number : ℕ) (rs : List TheRecord) (cs : List TroubleLine) (tally : Tally)
+    → IsReadSoFar text rest number (lines_so_far rs cs tally)
     → Lacks 10 rest → (0 < length rest) ⊎ (stage_behind tally cs ≡ AtPaths) → IsFirstStrayLine IsSheetText text number
 stray_end text [] number rs cs tally so lacks (inl some) = absurd (omega arith)
 stray_end text [] number rs cs tally so lacks (inr between) =
@@ -211,7 +207,8 @@ stray_end text [] number rs cs tally so lacks (inr between) =
           (lacks_closed text so.done (lines_so_far rs cs tally) split so.read (stage_of_lines rs cs tally ∙ ap (λ (stage : Stage). Some stage) between));
     }
 stray_end text (x ∷ rest) number rs cs tally so lacks why =
-    stray_at text (x ∷ rest) (x ∷ rest) [] number rs cs tally so (lines_of_rest x rest lacks ∙ ap (λ (r : List (List ℕ)). (x ∷ rest) ∷ r) (sym lines_of_nothing))
+    stray_at text (x ∷ rest) (x ∷ rest) [] number rs cs tally so
+    (lines_of_rest x rest lacks ∙ ap (λ (r : List (List ℕ)). (x ∷ rest) ∷ r) (sym lines_of_nothing))
     (λ o range same. absurd (unended_line x rest lacks o range same))
 
 -- a text that was read to its end is that of the lines
@@ -220,7 +217,8 @@ pub read_all : (text rest : List ℕ) (number : ℕ) (rs : List TheRecord) (cs :
     → IsReadAs text (record { records = rs; cards = cs; counts = counts })
 read_all text [] number rs cs counts tally so none same =
     let split : lines text ≡ so.done = so.split ∙ ap (λ (r : List (List ℕ)). so.done ++ r) lines_of_nothing ∙ append-nil so.done in
-    let ls : lines_so_far rs cs tally ≡ lines_of_sheet (record { records = rs; cards = cs; counts = counts }) = ap (λ (c : List Line). (map Record rs ++ map Trouble cs) ++ c) same in
+    let ls : lines_so_far rs cs tally ≡ lines_of_sheet (record { records = rs; cards = cs; counts = counts }) =
+    ap (λ (c : List Line). (map Record rs ++ map Trouble cs) ++ c) same in
     subst (λ (ts : List (List ℕ)). AreTextsOf ts (lines_of_sheet (record { records = rs; cards = cs; counts = counts }))) (sym split)
     (subst (λ (l : List Line). AreTextsOf so.done l) ls so.read)
 read_all text (x ∷ rest) number rs cs counts tally so none same = absurd (omega arith)

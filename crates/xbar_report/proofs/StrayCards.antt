@@ -1,27 +1,14 @@
-use Rattle.std.proofs.Common.{◌≡◌, ◌<◌, ◌≤◌, ◌+◌, ◌-◌, ◌⊎◌, ℕ, zero, suc, true, List, [], ◌∷◌, ◌++◌, length, map, take, drop, inl, inr, refl, sym, ap, subst, ◌∙◌, arith}
-use Rattle.std.specs.Prelude.{Option, Some, None, flat_map}
-use Rattle.std.specs.List.{AllByRecursion}
-use Rattle.std.proofs.lemmas.List.{length-append, length-map, length-take, length-drop, map-append, take_at, take-append-drop, take-map, take-take, take_all, take-append-le, append_cancel_left}
-use Rattle.xbar_office.specs.Legal.{HaveTurns}
-use Rattle.xbar_office.specs.declared.reply.Card.{Card}
-use Rattle.xbar_office.specs.declared.reply.Record.{Record as TheRecord}
-use Rattle.xbar_report.specs.Bare.{bare_line, bare_record}
-use Rattle.xbar_report.specs.Dealt.{belongs, own_of, own_count_of, dealt_records, left_of}
-use Rattle.xbar_report.specs.Draft.{AreTextsOf, IsReadAs}
-use Rattle.xbar_report.specs.Line.{IsLine, line_text, lines_of_sheet, lines_of_counts}
-use Rattle.xbar_report.specs.Ranges.{IsRecord}
-use Rattle.xbar_equip.specs.TextLines.{lines}
-use Rattle.xbar_report.specs.Reading.{HaveSameLines, IsFirstStrayLine}
-use Rattle.xbar_report.specs.Sheet.{Sheet, IsReport, IsReportText}
-use Rattle.xbar_report.specs.Text.{records_text, trouble_of, troubles_of}
-use Rattle.xbar_report.specs.declared.counts.Counts.{Counts}
-use Rattle.xbar_report.specs.declared.line.Line.{Line}
-use Rattle.xbar_report.specs.declared.line.Line.TheVariants.{Record, Trouble, Paths, Closed}
-use Rattle.xbar_report.specs.declared.trouble_line.TroubleLine.{TroubleLine}
-use Rattle.xbar_report.proofs.Deals.{length-dealt}
-use Rattle.xbar_report.proofs.Reports.{dealt_lines, own_belongs, own_le, taken_and_left}
-use Rattle.xbar_report.proofs.Sheets.{all_take, lines_of_text, sheet_range, texts_are, texts_only}
-use Rattle.xbar_report.proofs.Uniques.{BeginsOtherwise, later_turns, otherwise, own_exact, own_step, regrouped_lines, report_range, report_text_is, sheet_of}
+use Rattle.std.proofs.Common.{◌≡◌, ◌<◌, ◌≤◌, ◌+◌, ◌-◌, ◌⊎◌, ℕ, zero, suc, true, List, [], ◌∷◌, ◌++◌, length, map, take, drop, inl, inr, refl, sym, ap, subst}
+use Rattle.std.proofs.Common.{◌∙◌, arith, Option, Some, None, flat_map, length-append, length-take, length-drop, take_at, take-append-drop, take-take, take_all}
+use Rattle.std.{specs.List.AllByRecursion, proofs.lemmas.List.{length-map, map-append, take-map, take-append-le, append_cancel_left}}
+use Rattle.xbar_office.specs.{Legal.HaveTurns, declared.reply.{Card.Card, Record.{Record as TheRecord}}}
+use Rattle.xbar_report.specs.{Bare.{bare_line, bare_record}, Dealt.{belongs, own_of, own_count_of, dealt_records, left_of}, Draft.{AreTextsOf, IsReadAs}}
+use Rattle.xbar_report.specs.{Line.{IsLine, line_text, lines_of_sheet, lines_of_counts}, Ranges.IsRecord, Reading.{HaveSameLines, IsFirstStrayLine}}
+use Rattle.xbar_report.specs.{Sheet.{Sheet, IsReport, IsReportText}, Text.{records_text, trouble_of, troubles_of}, declared.counts.Counts.Counts}
+use Rattle.xbar_report.specs.declared.{line.Line.{Line, TheVariants.{Record, Trouble, Paths, Closed}}, trouble_line.TroubleLine.TroubleLine}
+use Rattle.xbar_report.proofs.{Deals.length-dealt, Reports.{dealt_lines, own_belongs, own_le, taken_and_left}}
+use Rattle.xbar_report.proofs.{Sheets.{all_take, lines_of_text, sheet_range, texts_are, texts_only}, Uniques.{BeginsOtherwise, later_turns, otherwise}}
+use Rattle.{xbar_report.proofs.Uniques.{own_exact, own_step, regrouped_lines, report_range, report_text_is, sheet_of}, xbar_equip.specs.TextLines.lines}
 
 -- lists
 
@@ -82,9 +69,11 @@ split_le (suc m) zero = inr (omega arith)
 split_le (suc m) (suc n) = elim (split_le m n) [ inl h ↦ inl (omega arith) | inr h ↦ inr (omega arith) ]
 
 -- if cards begin with a record's own and go on with others', the record takes its own
-past_own : (turn n : ℕ) (r : TheRecord) (rs : List TheRecord) (cards : List TroubleLine) → HaveTurns turn (r ∷ rs) → AllByRecursion IsRecord (r ∷ rs) → n ≤ length cards
+past_own : (turn n : ℕ) (r : TheRecord) (rs : List TheRecord) (cards : List TroubleLine) → HaveTurns turn (r ∷ rs) → AllByRecursion IsRecord (r ∷ rs)
+    → n ≤ length cards
     → length r.reply.cards < n → take n (troubles_of r ++ flat_map troubles_of rs) ≡ take n cards
-    → ((m : ℕ) (cs : List TroubleLine) → m ≤ length cs → take m (flat_map troubles_of rs) ≡ take m cs → m + length (left_of (map bare_record rs) cs) ≤ length cs)
+    → ((m : ℕ) (cs : List TroubleLine) → m ≤ length cs → take m (flat_map troubles_of rs) ≡ take m cs
+    → m + length (left_of (map bare_record rs) cs) ≤ length cs)
     → n + length (left_of (map bare_record rs) (drop (own_count_of (bare_record r) cards) cards)) ≤ length cards
 past_own turn n r rs cards h range within many e later =
     let own = troubles_of r in
@@ -126,7 +115,9 @@ taken_most turn n (r ∷ rs) cards h range within e = elim (split_le n (length r
       let size = length-drop (own_count_of (bare_record r) cards) cards in
       let le = own_le 2 (bare_record r) cards in
       omega (arith, k, less, size, le.1)
-  | inr many ↦ past_own turn n r rs cards h range within many e (λ (m : ℕ) (cs : List TroubleLine) (w : m ≤ length cs) (same : take m (flat_map troubles_of rs) ≡ take m cs). taken_most (turn + 1) m rs cs h.1 range.1 w same)
+  | inr many ↦ past_own turn n r rs cards h range within many e
+      (λ (m : ℕ) (cs : List TroubleLine) (w : m ≤ length cs) (same : take m (flat_map troubles_of rs) ≡ take m cs). taken_most (turn + 1) m rs cs h.1 range.1 w
+      same)
 ]
 
 -- which lines come first
@@ -207,12 +198,14 @@ record_texts (r ∷ rs) (x ∷ rs') e =
     cc
 
 -- the first lines of a sheet, up to its first `k` cards
-front_lines : (s : Sheet) (k n : ℕ) → k ≤ length s.cards → n ≡ length s.records + k → take n (lines_of_sheet s) ≡ map Record s.records ++ map Trouble (take k s.cards)
+front_lines : (s : Sheet) (k n : ℕ) → k ≤ length s.cards → n ≡ length s.records + k
+    → take n (lines_of_sheet s) ≡ map Record s.records ++ map Trouble (take k s.cards)
 front_lines s k n within size =
     let records = length-map s.records Record in
     let cards = length-map s.cards Trouble in
     ap (take n) (regrouped_lines s) ∙ take_past (map Record s.records) (map Trouble s.cards ++ lines_of_counts s.counts) k n (omega (arith, size, records))
-    ∙ ap (λ (more : List Line). map Record s.records ++ more) (take-append-le k (map Trouble s.cards) (lines_of_counts s.counts) (omega (arith, within, cards)) ∙ take-map Trouble k s.cards)
+    ∙ ap (λ (more : List Line). map Record s.records ++ more)
+    (take-append-le k (map Trouble s.cards) (lines_of_counts s.counts) (omega (arith, within, cards)) ∙ take-map Trouble k s.cards)
 
 report_cut : (s : Sheet) (rs : List TheRecord) (counts : Option Counts) (k n : ℕ) → k < length s.cards → n ≡ length s.records + (k + 1)
     → (zs : List TroubleLine) → zs ≡ take (k + 1) s.cards
@@ -238,9 +231,12 @@ report_front text s rs counts k n read report within size same =
     let ours = lines_of_sheet s in
     let text_is : lines (records_text rs counts) ≡ map line_text all = ap lines (sym (report_text_is rs counts)) ∙ lines_of_text theirs range in
     let fronts : take n (lines text) ≡ map line_text (take n all) = sym same ∙ ap (take n) text_is ∙ take-map line_text n all in
-    let bare = texts_only (take n (lines text)) (take n ours) (take n all) (texts_take n (lines text) ours read) (all_take IsLine n all (sheet_range theirs range)) fronts in
+    let bare =
+    texts_only (take n (lines text)) (take n ours) (take n all) (texts_take n (lines text) ours read) (all_take IsLine n all (sheet_range theirs range))
+    fronts in
     let cut = front_lines s (k + 1) n (omega arith) size in
-    report_cut s rs counts k n within size (take (k + 1) s.cards) refl (sym (ap (λ (ls : List Line). map bare_line (take n ls)) (regrouped_lines theirs)) ∙ bare ∙ cut)
+    report_cut s rs counts k n within size (take (k + 1) s.cards) refl
+    (sym (ap (λ (ls : List Line). map bare_line (take n ls)) (regrouped_lines theirs)) ∙ bare ∙ cut)
 
 here_card : (text : List ℕ) (s : Sheet) (number : ℕ) → IsReadAs text s → 0 < length (left_of s.records s.cards)
     → number ≡ length s.records + (length s.cards - length (left_of s.records s.cards)) + 1
@@ -276,8 +272,10 @@ before_card text s number read some size report =
     ap (take n) (texts_are (lines text) (lines_of_sheet s) read) ∙ take-map line_text n (lines_of_sheet s)
     ∙ ap (map line_text) (front_lines s k n k_le n_is ∙ ap (λ (cs : List TroubleLine). map Record s.records ++ map Trouble cs) first) in
     let them : take n (lines (records_text rs s.counts)) ≡ map line_text (map Record rs ++ map Trouble taken) =
-    ap (take n) (ap lines (sym (report_text_is rs s.counts)) ∙ lines_of_text theirs (report_range rs s.counts report)) ∙ take-map line_text n (lines_of_sheet theirs)
-    ∙ ap (map line_text) (front_lines theirs k n (omega arith) (omega (arith, n_is, records)) ∙ ap (λ (cs : List TroubleLine). map Record rs ++ map Trouble cs) (take_all k taken (omega arith))) in
+    ap (take n) (ap lines (sym (report_text_is rs s.counts)) ∙ lines_of_text theirs (report_range rs s.counts report))
+    ∙ take-map line_text n (lines_of_sheet theirs)
+    ∙ ap (map line_text) (front_lines theirs k n (omega arith) (omega (arith, n_is, records))
+    ∙ ap (λ (cs : List TroubleLine). map Record rs ++ map Trouble cs) (take_all k taken (omega arith))) in
     let joined : map line_text (map Record rs ++ map Trouble taken) ≡ map line_text (map Record s.records ++ map Trouble taken) =
     map-append line_text (map Record rs) (map Trouble taken)
     ∙ ap (λ (front : List (List ℕ)). front ++ map line_text (map Trouble taken)) (record_texts rs s.records (dealt_lines s.records s.cards))
@@ -289,6 +287,10 @@ pub stray_card : (text : List ℕ) (s : Sheet) (number : ℕ) → IsReadAs text 
     → 0 < length (left_of s.records s.cards) → number ≡ length s.records + (length s.cards - length (left_of s.records s.cards)) + 1
     → IsReport (dealt_records s.records s.cards) s.counts → IsFirstStrayLine IsReportText text number
 stray_card text s number read turns range some size report = record {
-  before = (records_text (dealt_records s.records s.cards) s.counts, (dealt_records s.records s.cards, s.counts, report, refl), before_card text s number read some size report);
+  before = (
+    records_text (dealt_records s.records s.cards) s.counts,
+    (dealt_records s.records s.cards, s.counts, report, refl),
+    before_card text s number read some size report,
+  );
   here = λ other h same. here_card text s number read some size other h same;
 }

@@ -1,29 +1,16 @@
-use Rattle.std.proofs.Common.{◌≡◌, ◌≤◌, ◌+◌, ℕ, zero, suc, Bool, true, false, cond, List, [], ◌∷◌, ◌++◌, length, map, take, drop, refl, sym, ap, ◌∙◌, arith, append_assoc}
-use Rattle.std.specs.Prelude.{◌==◌, ◌&&◌, Option, Some, None, flat_map}
-use Rattle.std.specs.List.{AllByRecursion}
-use Rattle.std.proofs.lemmas.List.{length-map, take_at, drop_at}
-use borrow.Author.Tests.{ne_eqb}
-use Rattle.std.proofs.lemmas.Grind.{flat_map-append}
-use Rattle.xbar_office.specs.Legal.{HaveTurns}
-use Rattle.xbar_office.specs.declared.reply.Card.{Card}
-use Rattle.xbar_office.specs.declared.reply.Record.{Record as TheRecord}
-use Rattle.xbar_report.specs.Bare.{bare_line, bare_record}
-use Rattle.xbar_report.specs.Dealt.{belongs, own_of, own_count_of, with_cards, dealt_records, left_of}
-use Rattle.xbar_report.specs.Draft.{IsReadAs}
-use Rattle.xbar_report.specs.Line.{lines_of_sheet, lines_of_counts}
-use Rattle.xbar_report.specs.Ranges.{IsCard, IsRecord, IsTroubleLine}
-use Rattle.xbar_equip.specs.TextLines.{lines}
-use Rattle.xbar_report.specs.Sheet.{Sheet, sheet_text, IsSheet, IsReport}
-use Rattle.xbar_report.specs.Text.{record_line, trouble_line, card_lines, count_lines, records_text, trouble_of, troubles_of}
-use Rattle.xbar_report.specs.declared.counts.Counts.{Counts}
-use Rattle.xbar_report.specs.declared.line.Line.{Line}
-use Rattle.xbar_report.specs.declared.line.Line.TheVariants.{Record, Trouble}
-use Rattle.xbar_report.specs.declared.trouble_line.TroubleLine.{TroubleLine}
-use Rattle.xbar_report.proofs.Reports.{own_belongs}
-use Rattle.xbar_report.proofs.Sheets.{all_append, lines_of_text, sheet_range, texts_only}
+use Rattle.std.proofs.Common.{◌≡◌, ◌≤◌, ◌+◌, ℕ, zero, suc, Bool, true, false, cond, List, [], ◌∷◌, ◌++◌, length, map, take, drop, refl, sym, ap, ◌∙◌, arith}
+use Rattle.std.proofs.Common.{append_assoc, ◌==◌, ◌&&◌, Option, Some, None, flat_map, take_at, drop_at, ne_eqb}
+use Rattle.std.{specs.List.AllByRecursion, proofs.lemmas.{List.length-map, Grind.flat_map-append}}
+use Rattle.xbar_office.specs.{Legal.HaveTurns, declared.reply.{Card.Card, Record.{Record as TheRecord}}}
+use Rattle.xbar_report.specs.{Bare.{bare_line, bare_record}, Dealt.{belongs, own_of, own_count_of, with_cards, dealt_records, left_of}, Draft.IsReadAs}
+use Rattle.xbar_report.specs.{Line.{lines_of_sheet, lines_of_counts}, Ranges.{IsCard, IsRecord, IsTroubleLine}, Sheet.{Sheet, sheet_text, IsSheet, IsReport}}
+use Rattle.xbar_report.specs.{Text.{record_line, trouble_line, card_lines, count_lines, records_text, trouble_of, troubles_of}, declared.counts.Counts.Counts}
+use Rattle.xbar_report.specs.declared.{line.Line.TheVariants.{Record, Trouble}, trouble_line.TroubleLine.TroubleLine}
+use Rattle.{xbar_report.proofs.{Reports.own_belongs, Sheets.{all_append, lines_of_text, sheet_range, texts_only}}, xbar_equip.specs.TextLines.lines}
 
 -- lines that are the same, but for cards of records, are those of the same cards and counts
-behind_same : (cs cs' : List TroubleLine) (n n' : Option Counts) → map bare_line (map Trouble cs' ++ lines_of_counts n') ≡ map Trouble cs ++ lines_of_counts n → (cs ≡ cs') × (n ≡ n')
+behind_same : (cs cs' : List TroubleLine) (n n' : Option Counts) → map bare_line (map Trouble cs' ++ lines_of_counts n') ≡ map Trouble cs ++ lines_of_counts n
+    → (cs ≡ cs') × (n ≡ n')
 behind_same [] [] None None e = (refl, refl)
 behind_same [] [] None (Some b) e = absurd cc
 behind_same [] [] (Some a) None e = absurd cc
@@ -43,7 +30,8 @@ behind_same (t ∷ cs) (t' ∷ cs') n n' e =
 
 -- and of the same records
 lines_same : (rs rs' : List TheRecord) (cs cs' : List TroubleLine) (n n' : Option Counts)
-    → map bare_line (map Record rs' ++ (map Trouble cs' ++ lines_of_counts n')) ≡ map Record rs ++ (map Trouble cs ++ lines_of_counts n) → (rs ≡ map bare_record rs') × (cs ≡ cs') × (n ≡ n')
+    → map bare_line (map Record rs' ++ (map Trouble cs' ++ lines_of_counts n')) ≡ map Record rs ++ (map Trouble cs ++ lines_of_counts n)
+    → (rs ≡ map bare_record rs') × (cs ≡ cs') × (n ≡ n')
 lines_same [] [] cs cs' n n' e = let same = behind_same cs cs' n n' e in (refl, same.0, same.1)
 lines_same [] (r ∷ rs') [] cs' None n' e = absurd cc
 lines_same [] (r ∷ rs') [] cs' (Some a) n' e = absurd cc
@@ -124,7 +112,8 @@ otherwise turn r [] is later = tt
 otherwise turn r (t ∷ cards) is later =
     ap (λ (b : Bool). b && t.job_no == r.job_no) (ne_eqb t.turn r.turn (λ e. let h = later.0 in omega (arith, e, is, h)))
 
-pub own_step : (most : ℕ) (r : TheRecord) (t : TroubleLine) (cards : List TroubleLine) → belongs r t ≡ true → own_of (suc most) r (t ∷ cards) ≡ suc (own_of most r cards)
+pub own_step : (most : ℕ) (r : TheRecord) (t : TroubleLine) (cards : List TroubleLine) → belongs r t ≡ true
+    → own_of (suc most) r (t ∷ cards) ≡ suc (own_of most r cards)
 own_step most r t cards h = ap (λ (b : Bool). cond b (suc (own_of most r cards)) 0) h
 
 own_stop : (most : ℕ) (r : TheRecord) (cards : List TroubleLine) → BeginsOtherwise r cards → own_of most r cards ≡ 0
@@ -133,7 +122,8 @@ own_stop (suc most) r [] h = refl
 own_stop (suc most) r (t ∷ cards) h = ap (λ (b : Bool). cond b (suc (own_of most r cards)) 0) h
 
 -- a record takes its own cards, and no more if another's follow
-pub own_exact : (most : ℕ) (r : TheRecord) (own : List Card) (rest : List TroubleLine) → length own ≤ most → BeginsOtherwise r rest → own_of most r (map (trouble_of r) own ++ rest) ≡ length own
+pub own_exact : (most : ℕ) (r : TheRecord) (own : List Card) (rest : List TroubleLine) → length own ≤ most → BeginsOtherwise r rest
+    → own_of most r (map (trouble_of r) own ++ rest) ≡ length own
 own_exact most r [] rest few h = own_stop most r rest h
 own_exact zero r (card ∷ own) rest few h = absurd (omega arith)
 own_exact (suc most) r (card ∷ own) rest few h =
@@ -152,7 +142,8 @@ own_dealt turn (r ∷ rs) h range =
     let own = troubles_of r in
     let rest = flat_map troubles_of rs in
     let later = own_dealt (turn + 1) rs h.1 range.1 in
-    let k : own_count_of (bare_record r) (own ++ rest) ≡ length r.reply.cards = own_exact 2 r r.reply.cards rest range.0.few (otherwise turn r rest h.0 (later_turns (turn + 1) rs h.1)) in
+    let k : own_count_of (bare_record r) (own ++ rest) ≡ length r.reply.cards =
+    own_exact 2 r r.reply.cards rest range.0.few (otherwise turn r rest h.0 (later_turns (turn + 1) rs h.1)) in
     let size : length own ≡ own_count_of (bare_record r) (own ++ rest) = length-map r.reply.cards (trouble_of r) ∙ sym k in
     let taken : take (own_count_of (bare_record r) (own ++ rest)) (own ++ rest) ≡ own = take_at own rest _ size in
     let gone : drop (own_count_of (bare_record r) (own ++ rest)) (own ++ rest) ≡ rest = drop_at own rest _ size in

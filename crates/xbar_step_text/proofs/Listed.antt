@@ -1,12 +1,9 @@
 -- texts listed one by one
-use Rattle.std.proofs.Common.{◌≡◌, ℕ, zero, suc, ◌+◌, Bool, true, false, List, [], ◌∷◌, ◌++◌, append_assoc, append-nil, refl, sym, ◌∙◌, ap, arith}
-use Rattle.std.specs.Prelude.{◌||◌, codes, filter, map, if◌then◌else◌}
-use Rattle.std.specs.List.{range_with_len}
-use Rattle.std.proofs.lemmas.Grind.{common_steps}
-use Rattle.xbar_equip.proofs.Logic.{or_true, or_false}
+use Rattle.std.proofs.Common.{◌≡◌, ℕ, zero, suc, ◌+◌, Bool, true, false, List, [], ◌∷◌, ◌++◌, append_assoc, append-nil, refl, sym, ◌∙◌, ap, arith, ◌||◌, codes}
+use Rattle.std.proofs.Common.{filter, map, if◌then◌else◌}
+use Rattle.{std.{specs.List.range_with_len, proofs.lemmas.Grind.common_steps}, xbar_equip.proofs.Logic.{or_true, or_false}}
 use Rattle.xbar_json.specs.Json.{listed as listed_values}
-use Rattle.xbar_step_text.specs.Shown.{has_any, is_shown, item_at, listed, positions, shown, shown_at, shown_to}
-use Rattle.xbar_step_text.specs.declared.place.Place.{Place}
+use Rattle.xbar_step_text.specs.{Shown.{has_any, is_shown, item_at, listed, positions, shown, shown_at, shown_to}, declared.place.Place.Place}
 
 -- one number more
 range_more : (a n : ℕ) → range_with_len a (suc n) ≡ range_with_len a n ++ (a + n) ∷ []
@@ -43,7 +40,8 @@ none_without [] e = refl
 none_without (text ∷ texts) e = absurd cc
 
 -- one more text comes after the head, or after a separator
-listed_more : (head separator : List ℕ) (texts : List (List ℕ)) (text : List ℕ) → listed [] head separator (texts ++ text ∷ []) ≡ listed [] head separator texts ++ (if has_any texts then separator else head) ++ text
+listed_more : (head separator : List ℕ) (texts : List (List ℕ)) (text : List ℕ)
+    → listed [] head separator (texts ++ text ∷ []) ≡ listed [] head separator texts ++ (if has_any texts then separator else head) ++ text
 unfolding listed
 listed_more head separator [] text = grind (arith, common_steps)
 listed_more head separator (first ∷ texts) text = grind (arith, common_steps)
@@ -73,7 +71,8 @@ module _ (test : ℕ → Bool) (of : ℕ → List ℕ) (head separator first now
           text_is = same ∙ so_far.text_is ∙ ap (λ (texts : List (List ℕ)). first ++ listed [] head separator texts) (sym none);
         }
 
-    adds_one : (next : List ℕ) (some : Bool) → test n ≡ true → some ≡ true → next ≡ now ++ ((if any then separator else head) ++ of n) → IsListed test of (n + 1) head separator first next some
+    adds_one : (next : List ℕ) (some : Bool) → test n ≡ true → some ≡ true → next ≡ now ++ ((if any then separator else head) ++ of n)
+        → IsListed test of (n + 1) head separator first next some
     adds_one next some holds is adds =
         let item = of n in
         let texts = picked test of n in
@@ -91,7 +90,8 @@ module _ (test : ℕ → Bool) (of : ℕ → List ℕ) (head separator first now
         }
 
     -- one position more
-    pub one_listed : (next : List ℕ) (some : Bool) → some ≡ (any || test n) → next ≡ now ++ (if test n then (if any then separator else head) ++ of n else []) → IsListed test of (n + 1) head separator first next some
+    pub one_listed : (next : List ℕ) (some : Bool) → some ≡ (any || test n) → next ≡ now ++ (if test n then (if any then separator else head) ++ of n else [])
+        → IsListed test of (n + 1) head separator first next some
     one_listed next some is adds = by (test n) refl where
       by : (b : Bool) → test n ≡ b → IsListed test of (n + 1) head separator first next some
       by true shows =
@@ -112,7 +112,8 @@ module _ (place : Place) (word : ℕ) (head separator first now : List ℕ) (any
   abbrev pub IsShownTo : Type 0
   IsShownTo = IsListed (is_shown place word) (item_at place word) n head separator first now any
 
-  pub next_shown : IsShownTo → (next : List ℕ) (some : Bool) → some ≡ (any || is_shown place word n) → next ≡ now ++ shown_at place word n (if any then separator else head)
+  pub next_shown : IsShownTo → (next : List ℕ) (some : Bool) → some ≡ (any || is_shown place word n)
+      → next ≡ now ++ shown_at place word n (if any then separator else head)
       → IsListed (is_shown place word) (item_at place word) (n + 1) head separator first next some
   unfolding shown_at
   next_shown so_far = one_listed (is_shown place word) (item_at place word) head separator first now any n so_far
@@ -127,7 +128,8 @@ unfolding listed listed_values
 array_listed [] = refl
 array_listed (value ∷ values) = refl
 
-pub all_values : (test : ℕ → Bool) (of : ℕ → List ℕ) (first now : List ℕ) (any : Bool) (n count : ℕ) → IsListed test of n [] (codes ",") first now any → n ≡ count → now ≡ first ++ listed_values (picked test of count)
+pub all_values : (test : ℕ → Bool) (of : ℕ → List ℕ) (first now : List ℕ) (any : Bool) (n count : ℕ) → IsListed test of n [] (codes ",") first now any
+    → n ≡ count → now ≡ first ++ listed_values (picked test of count)
 all_values test of first now any n count so_far all =
     (ends_list test of [] (codes ",") first now any n so_far count all).1 ∙ ap (λ (text : List ℕ). first ++ text) (array_listed (picked test of count))
 
@@ -146,7 +148,8 @@ module _ (none head separator first now : List ℕ) (texts : List (List ℕ)) (a
       ∙ ap (λ (these : List (List ℕ)). first ++ listed none head separator these) (sym empty)
 
 -- texts after others
-pub listed_on : (head separator : List ℕ) (texts more : List (List ℕ)) → listed [] head separator (texts ++ more) ≡ listed [] head separator texts ++ listed [] (if has_any texts then separator else head) separator more
+pub listed_on : (head separator : List ℕ) (texts more : List (List ℕ))
+    → listed [] head separator (texts ++ more) ≡ listed [] head separator texts ++ listed [] (if has_any texts then separator else head) separator more
 unfolding listed
 listed_on head separator [] more = refl
 listed_on head separator (text ∷ texts) [] = grind (arith, common_steps)

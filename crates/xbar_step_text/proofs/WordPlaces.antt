@@ -1,9 +1,6 @@
 -- the word of a place leads to the place
-use Rattle.std.proofs.Common.{◌≡◌, ℕ, ◌+◌, ◌-◌, ◌*◌, ◌/◌, ◌%◌, ◌<◌, ◌≤◌, Bool, false, refl, ◌∙◌, ap, arith}
-use Rattle.std.specs.Prelude.{nat_lt, if◌then◌else◌}
-use Rattle.std.proofs.lemmas.Bool.{lt-ltb}
-use Rattle.xbar_step_text.specs.Places.{on_line_frame, on_trunk_frame, place_of}
-use Rattle.xbar_step_text.specs.declared.place.Place.{Place}
+use Rattle.std.proofs.Common.{◌≡◌, ℕ, ◌+◌, ◌-◌, ◌*◌, ◌/◌, ◌%◌, ◌<◌, ◌≤◌, Bool, false, refl, ◌∙◌, ap, arith, nat_lt, if◌then◌else◌, lt-ltb}
+use Rattle.xbar_step_text.specs.{Places.{on_line_frame, on_trunk_frame, place_of}, declared.place.Place.Place}
 use Rattle.xbar_step_text.specs.declared.place.Place.TheVariants.{LineSwitch, LineJunctor, TrunkSwitch, TrunkJunctor, Group, Other}
 
 not_below : (a b : ℕ) → b ≤ a → nat_lt a b ≡ false
@@ -27,7 +24,8 @@ trunk_part n frame at is f a =
     let first : (n - 200) / 20 ≡ frame = omega arith in
     let second : (n - 200) % 20 ≡ at = omega arith in
     ap (λ (b : Bool). if b then on_line_frame (n / 20) (n % 20) else trunks n) (not_below n 200 (omega arith))
-    ∙ ap (λ (b : Bool). if b then on_trunk_frame ((n - 200) / 20) ((n - 200) % 20) else (if nat_lt n 416 then Group (n - 400) else Other n)) (lt-ltb n 400 (omega arith))
+    ∙ ap (λ (b : Bool). if b then on_trunk_frame ((n - 200) / 20) ((n - 200) % 20) else (if nat_lt n 416 then Group (n - 400) else Other n))
+    (lt-ltb n 400 (omega arith))
     ∙ ap (λ (k : ℕ). on_trunk_frame k ((n - 200) % 20)) first ∙ ap (on_trunk_frame frame) second
 
 pub line_switch_told : (frame switch : ℕ) → frame < 10 → switch < 10 → place_of (20 * frame + switch) ≡ LineSwitch frame switch
@@ -60,6 +58,7 @@ group_told group g =
     let n = 400 + group in
     let at : 400 + group - 400 ≡ group = omega arith in
     ap (λ (b : Bool). if b then on_line_frame (n / 20) (n % 20) else trunks n) (not_below (400 + group) 200 (omega arith))
-    ∙ ap (λ (b : Bool). if b then on_trunk_frame ((n - 200) / 20) ((n - 200) % 20) else (if nat_lt n 416 then Group (n - 400) else Other n)) (not_below (400 + group) 400 (omega arith))
+    ∙ ap (λ (b : Bool). if b then on_trunk_frame ((n - 200) / 20) ((n - 200) % 20) else (if nat_lt n 416 then Group (n - 400) else Other n))
+    (not_below (400 + group) 400 (omega arith))
     ∙ ap (λ (b : Bool). if b then Group (n - 400) else Other n) (lt-ltb (400 + group) 416 (omega arith))
     ∙ ap Group at

@@ -1,12 +1,10 @@
 -- the laws of fields: each field, and the bits above them, after or-ing in the close bits and
 -- and-ing with the open mask
-use Rattle.std.proofs.Common.{◌≡◌, ◌≢◌, ℕ, ◌+◌, ◌-◌, ◌*◌, ◌/◌, ◌%◌, ◌^◌, ◌<◌, ◌≤◌, Bool, true, cond, eqb, bit_and, bit_or, refl, ap, ap₂, ◌∙◌, mod-eq_of_lt, pow_mono, lt_of_lt_of_le, mul-le-mul_left, mul_assoc, mod-lt, arith, pow-add, eqb-true, eq-eqb, ne_eqb, inl, inr}
-use Rattle.std.proofs.Math.Nat.{mul-mod_left, zero-mod, zero-div, div-eq_of_lt}
-use Rattle.std.proofs.lemmas.Nat.{pow_pos, shl-shr, shl_below, shr_below, or_shr, or_mod, and_shr, and_mod, and_mask, or_comm, and_comm}
-use Rattle.std.proofs.lemmas.Bool.{agree_below, agree_below_at, cases_lt, cond-true, cond-false}
-use Rattle.xbar_switch.specs.declared.shape.Shape.{Shape}
-use Rattle.xbar_switch.specs.declared.shape.Shape.TheVariants.{Line, Other}
-use Rattle.xbar_switch.specs.Shape.{width, places}
+use Rattle.std.proofs.Common.{◌≡◌, ◌≢◌, ℕ, ◌+◌, ◌-◌, ◌*◌, ◌/◌, ◌%◌, ◌^◌, ◌<◌, ◌≤◌, Bool, true, cond, eqb, bit_and, bit_or, refl, ap, ap₂, ◌∙◌, mod-eq_of_lt}
+use Rattle.std.proofs.Common.{pow_mono, lt_of_lt_of_le, mul-le-mul_left, mul_assoc, mod-lt, arith, pow-add, eqb-true, eq-eqb, ne_eqb, inl, inr, pow_pos}
+use Rattle.std.proofs.{Math.Nat.{mul-mod_left, zero-mod, zero-div, div-eq_of_lt}, lemmas.Nat.{shl-shr, shl_below, shr_below, or_shr, or_mod, and_shr, and_mod}}
+use Rattle.std.proofs.lemmas.{Nat.{and_mask, or_comm, and_comm}, Bool.{agree_below, agree_below_at, cases_lt, cond-true, cond-false}}
+use Rattle.xbar_switch.specs.{declared.shape.Shape.{Shape, TheVariants.{Line, Other}}, Shape.{width, places}}
 use Rattle.xbar_switch.specs.Field.{field_of, above_fields, close_bits_of, open_mask_of, ChangesField, with_closed, with_open}
 
 -- one plus a place fits its field

@@ -1,7 +1,5 @@
-use Rattle.std.proofs.Common.{◌≡◌, ◌<◌, ◌≤◌, ◌^◌, ℕ, List, Option, Some, None, length, get_or, zero, suc, sym, ap, ◌∙◌, arith}
-use Rattle.std.specs.Prelude.{decimal, IfSome}
-use Rattle.std.specs.Str.Parse.{AllDigits, digits_value}
-use Rattle.std.proofs.lemmas.Str.Parse.{IsNumeralModel, numerals_by_value, tells_digits}
+use Rattle.std.proofs.Common.{◌≡◌, ◌<◌, ◌≤◌, ◌^◌, ℕ, List, Option, Some, None, length, get_or, zero, suc, sym, ap, ◌∙◌, arith, decimal, IfSome}
+use Rattle.std.{specs.Str.Parse.{AllDigits, digits_value}, proofs.lemmas.Str.Parse.{IsNumeralModel, numerals_by_value, tells_digits}}
 use Rattle.std.proofs.lemmas.Fmt.{decimal_digit, decimal_nonempty, digits_decimal, digits_value-decimal, first_decimal, decimal-digits_value}
 use Rattle.xbar_traffic.specs.Number.{BeginsPlainly}
 
@@ -25,7 +23,8 @@ pub decimal_has_value : (n : ℕ) → n < 2 ^ 64 → digits_value 10 (decimal n)
 decimal_has_value n h = digits_value-decimal own n h
 
 -- and digits that begin so are the text of their value
-pub number_of_value : (text : List ℕ) (limit : ℕ) (r : Option ℕ) → BeginsPlainly text → limit < 2 ^ 64 → IfSome r (λ n. (n ≤ limit) × AllDigits 10 text × (n ≡ digits_value 10 text)) → IfSome r (λ n. (n ≤ limit) × (text ≡ decimal n))
+pub number_of_value : (text : List ℕ) (limit : ℕ) (r : Option ℕ) → BeginsPlainly text → limit < 2 ^ 64
+    → IfSome r (λ n. (n ≤ limit) × AllDigits 10 text × (n ≡ digits_value 10 text)) → IfSome r (λ n. (n ≤ limit) × (text ≡ decimal n))
 number_of_value text limit (Some n) plain small h =
     (h.0, sym (ap decimal h.2 ∙ decimal-digits_value own text h.1 plain.0 plain.1 (omega (arith, h.0, h.2))))
 number_of_value text limit None plain small h = tt

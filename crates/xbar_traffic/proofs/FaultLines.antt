@@ -1,8 +1,5 @@
-use Rattle.std.proofs.Common.{◌≡◌, ◌++◌, ℕ, List, refl, append_assoc, ap, sym}
-use Rattle.std.specs.Prelude.{codes, decimal}
-use Rattle.xbar_traffic.specs.Fault.{fault_code, fault_line, marker_code, row_fault_text}
-use Rattle.xbar_traffic.specs.declared.fault.MarkerFault.{MarkerFault}
-use Rattle.xbar_traffic.specs.declared.fault.RowFault.{RowFault}
+use Rattle.std.proofs.Common.{◌≡◌, ◌++◌, ℕ, List, refl, append_assoc, ap, sym, codes, decimal}
+use Rattle.xbar_traffic.specs.{Fault.{fault_code, fault_line, marker_code, row_fault_text}, declared.fault.{MarkerFault.MarkerFault, RowFault.RowFault}}
 use Rattle.xbar_traffic.specs.declared.fault.RowFault.TheVariants.{Unreadable, UnknownKind, Malformed, NumberTwice, Marker, OtherMode}
 use Rattle.xbar_traffic.specs.declared.fault.TrafficFault.{TrafficFault}
 

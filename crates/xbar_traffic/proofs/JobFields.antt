@@ -1,17 +1,9 @@
 use Rattle.std.proofs.Common.{◌≡◌, ◌≢◌, ◌/◌, ◌%◌, ◌*◌, ◌^◌, ◌++◌, ℕ, zero, suc, List, [], ◌∷◌, length, take, drop, true, false, refl, sym, ap, ◌∙◌, arith, lit≤}
-use Rattle.std.specs.Prelude.{◌==◌ as eqb, Err, codes}
-use Rattle.std.specs.Cmp.Lexicographic.{pointwise}
-use Rattle.std.proofs.Math.Arith.{mod-mul}
-use Rattle.std.proofs.Math.Nat.{pow-suc, pow-le-pow_right}
-use Rattle.std.proofs.Math.Seq.{drop-append_seam, take-append_seam}
-use Rattle.xbar_equip.specs.Dialled.{IsDialled, dialled_text}
-use Rattle.xbar_equip.specs.Digits.{digit, digits}
-use Rattle.xbar_equip.specs.Len.{IsLine, Line, line_text}
-use Rattle.xbar_office.specs.Legal.{IsJob}
-use Rattle.xbar_office.specs.declared.job.Job.{Job}
-use Rattle.xbar_office.specs.declared.job.Job.TheVariants.{Dial, Complete, Release}
-use Rattle.xbar_traffic.specs.Job.{IsJobReadAs, job_fields}
-use Rattle.xbar_traffic.specs.declared.fault.RowFault.TheVariants.{Malformed}
+use Rattle.std.proofs.Common.{◌==◌ as eqb, Err, codes, pow-suc}
+use Rattle.std.{specs.Cmp.Lexicographic.pointwise, proofs.Math.{Arith.mod-mul, Nat.pow-le-pow_right, Seq.{drop-append_seam, take-append_seam}}}
+use Rattle.xbar_equip.specs.{Dialled.{IsDialled, dialled_text}, Digits.{digit, digits}, Len.{IsLine, Line, line_text}}
+use Rattle.xbar_office.specs.{Legal.IsJob, declared.job.Job.{Job, TheVariants.{Dial, Complete, Release}}}
+use Rattle.xbar_traffic.specs.{Job.{IsJobReadAs, job_fields}, declared.fault.RowFault.TheVariants.Malformed}
 
 -- lists that are one begin with one item
 pub first_same : {A : Type 0} (x y : A) (xs ys : List A) → x ∷ xs ≡ y ∷ ys → x ≡ y

@@ -1,14 +1,8 @@
-use Rattle.std.proofs.Common.{◌≡◌, ◌⊎◌, ◌++◌, ℕ, Bool, true, false, List, [], ◌∷◌, Some, None, refl, sym, ap, subst, ◌∙◌, arith, inl, inr}
-use Rattle.std.specs.Prelude.{Option, Ok, Err, All}
-use Rattle.std.proofs.lemmas.Fmt.{decimal_injective}
-use Rattle.std.proofs.lemmas.List.Elements.{All-cons, All-nil}
-use Rattle.xbar_traffic.specs.Row.{IsReadAs, IsRow, hold_letter, mode_of, row_fields}
-use Rattle.xbar_traffic.specs.Traffic.{AreReadAfter, IsJudgedAs, repeats, is_in_rows}
-use Rattle.xbar_traffic.specs.declared.fault.RowFault.{RowFault}
-use Rattle.xbar_traffic.specs.declared.fault.RowFault.TheVariants.{Unreadable, UnknownKind, Malformed, NumberTwice, Marker, OtherMode}
-use Rattle.xbar_traffic.specs.declared.mode.Mode.{Mode}
-use Rattle.xbar_traffic.specs.declared.row.Row.{Row}
-use Rattle.xbar_traffic.specs.declared.row.Row.TheVariants.{Assign, Steps, Call}
+use Rattle.std.proofs.Common.{◌≡◌, ◌⊎◌, ◌++◌, ℕ, Bool, true, false, List, [], ◌∷◌, Some, None, refl, sym, ap, subst, ◌∙◌, arith, inl, inr, Option, Ok, Err, All}
+use Rattle.std.proofs.lemmas.{Fmt.decimal_injective, List.Elements.{All-cons, All-nil}}
+use Rattle.xbar_traffic.specs.{Row.{IsReadAs, IsRow, hold_letter, mode_of, row_fields}, Traffic.{AreReadAfter, IsJudgedAs, repeats, is_in_rows}}
+use Rattle.xbar_traffic.specs.declared.fault.RowFault.{RowFault, TheVariants.{Unreadable, UnknownKind, Malformed, NumberTwice, Marker, OtherMode}}
+use Rattle.xbar_traffic.specs.declared.{mode.Mode.Mode, row.Row.{Row, TheVariants.{Assign, Steps, Call}}}
 use Rattle.xbar_traffic.proofs.JobFields.{dialled_text_injective, first_same, job_fields_injective, line_text_injective, rest_same}
 
 -- a hold's letter is not the other's

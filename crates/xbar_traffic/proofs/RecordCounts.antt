@@ -1,13 +1,9 @@
-use Rattle.std.proofs.Common.{◌≡◌, ◌<◌, ◌≤◌, ◌+◌, ◌-◌, ◌==◌, ℕ, zero, suc, Bool, true, false, List, [], ◌∷◌, ◌++◌, length, Some, None, refl, ap, subst, ◌∙◌, arith, add-one}
-use Rattle.std.specs.Prelude.{Option, ◌||◌, if◌then◌else◌}
-use Rattle.std.proofs.lemmas.List.{append-nil}
+use Rattle.std.proofs.Common.{◌≡◌, ◌<◌, ◌≤◌, ◌+◌, ◌-◌, ◌==◌, ℕ, zero, suc, Bool, true, false, List, [], ◌∷◌, ◌++◌, length, Some, None, refl, ap, subst, ◌∙◌}
+use Rattle.std.proofs.Common.{arith, add-one, Option, ◌||◌, if◌then◌else◌, append-nil}
 use Rattle.csv.specs.Machine.{Read, ends_at_end, fields_after, is_end, in_field, next_record, start_field, start_record, step}
-use Rattle.csv.specs.Reading.{Reached, default_config, records, records_from}
-use Rattle.csv.specs.declared.parser.State.{State}
+use Rattle.csv.specs.{Reading.{Reached, default_config, records, records_from}, declared.parser.{State.State, Action.Action, Config.Config}}
 use Rattle.csv.specs.declared.parser.State.TheVariants as st
-use Rattle.csv.specs.declared.parser.Action.{Action}
 use Rattle.csv.specs.declared.parser.Action.TheVariants as act
-use Rattle.csv.specs.declared.parser.Config.{Config}
 
 -- each record, and then those after it
 pub records-reached : (cfg : Config) (rs : List (List (List ℕ))) (n m : ℕ) (s s2 : State) (xs ys : List ℕ) → n ≡ length rs + m
@@ -86,7 +82,8 @@ record_takes_bytes : (xs : List ℕ) (s : State) (fields : List (List ℕ)) (fie
 unfolding next_record
 record_takes_bytes [] s fields field p e = takes_at_end s (ends_at_end s) (fields ++ (field ∷ [])) p refl e
 record_takes_bytes (c ∷ rest) s fields field p e =
-    rw (← add-one (length rest)) (takes_byte s (step default_config s c).0 (is_end (step default_config s c).1) (fields_after (step default_config s c).1 fields field) rest _ p
+    rw (← add-one (length rest)) (takes_byte s (step default_config s c).0 (is_end (step default_config s c).1)
+    (fields_after (step default_config s c).1 fields field) rest _ p
     (step-outside s c) (record_takes_bytes rest (step default_config s c).0 _ _ p) e)
 
 -- there are at most as many records as bytes

@@ -6,6 +6,7 @@ use Rattle.xbar_traffic.specs.Job.{job_fields, is_job_kind}
 use Rattle.xbar_traffic.specs.declared.fault.RowFault.{RowFault}
 use Rattle.xbar_traffic.specs.declared.fault.RowFault.TheVariants.{Unreadable, UnknownKind, Malformed, OtherMode}
 use Rattle.xbar_traffic.specs.declared.row.Row.{Row}
+use Rattle.xbar_traffic.specs.declared.wrong_field.WrongField.{WrongField}
 use Rattle.xbar_traffic.specs.declared.mode.Mode.{Mode}
 use Rattle.xbar_traffic.specs.declared.mode.Mode.TheVariants.{Replay, Live}
 use Rattle.xbar_traffic.specs.declared.row.Row.TheVariants.{Assign, Steps, Call}
@@ -64,3 +65,8 @@ IsReadAs mode fields (Ok row) = IsRow row × (mode_of row ≡ mode) × (fields �
 IsReadAs mode fields (Err fault) =
     ((row : Row) → IsRow row → mode_of row ≡ mode → fields ≢ row_fields row)
     × (fault ≡ fields_fault mode fields)
+
+-- the same, where an error also tells which field is wrong
+abbrev pub IsRowRead : Mode → List (List ℕ) → Result Row WrongField → Type 0
+IsRowRead mode fields (Ok row) = IsReadAs mode fields (Ok row)
+IsRowRead mode fields (Err wrong) = IsReadAs mode fields (Err wrong.fault)

@@ -4,9 +4,9 @@
 
 pub use fault::{MarkerFault, RowFault, TrafficFault};
 pub use mode::Mode;
-pub use number::read_number;
-pub use row::{MARKER_LIMIT, NUMBER_LIMIT, Row, read_job};
+pub use row::Row;
 pub use traffic::Traffic;
+pub use wrong_field::{Expected, WrongField};
 
 mod fault;
 mod fields;
@@ -16,3 +16,4 @@ mod number;
 mod numbers;
 mod row;
 mod traffic;
+mod wrong_field;

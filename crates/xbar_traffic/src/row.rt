@@ -1,15 +1,16 @@
-ghost use Rattle.std.specs.Prelude.{◌≡◌, ◌≢◌, ℕ, Bool, List, [], ◌∷◌, ◌++◌, MatchOption, MatchResult, codes, length};
+ghost use Rattle.std.specs.Prelude.{◌≡◌, ◌≢◌, ◌≤◌, ℕ, Bool, List, [], ◌∷◌, ◌++◌, MatchOption, MatchResult, codes, decimal, length};
 ghost use Rattle.csv.specs.Records.{fields_of};
 ghost use Rattle.xbar_equip.specs.Dialled.{IsDialled, dialled_text};
 ghost use Rattle.xbar_equip.specs.Len.{IsLine, Line, line_text};
-ghost use Rattle.xbar_traffic.specs.Row.{IsReadAs, hold_letter};
+ghost use Rattle.xbar_traffic.specs.Row.{IsRowRead, hold_letter};
 ghost use Rattle.xbar_traffic.specs.Fields.{five_fields};
-ghost use Rattle.xbar_traffic.specs.Job.{IsJobReadAs};
+ghost use Rattle.xbar_traffic.specs.Job.{IsJobReadAs, is_job_kind as is_kind_of_job};
 
 use crate::fault::RowFault;
 use crate::fields::Fields;
 use crate::mode::Mode;
 use crate::number::read_number;
+use crate::wrong_field::{Expected, WrongField};
 use csv::ByteRecord;
 use xbar_equip::{Dialled, Len};
 use xbar_office::Job;
@@ -44,23 +45,27 @@ pub enum Row {
 }
 
 /// The highest number of a marker that a row may have.
-pub const MARKER_LIMIT: u32 = 99;
+const MARKER_LIMIT: u32 = 99;
 /// The highest number of a job or a call that a row may have, and the most steps.
-pub const NUMBER_LIMIT: u32 = 9999;
+const NUMBER_LIMIT: u32 = 9999;
 
 impl Row {
     /// Reads a record as a row of this mode. Earlier rows aren't considered.
-    pub(crate) fn read(mode: Mode, row: &ByteRecord) -> Result<Row, RowFault>
-        ensures { IsReadAs mode (fields_of row.now) result }
+    pub fn read(mode: Mode, row: &ByteRecord) -> Result<Row, WrongField>
+        ensures { IsRowRead mode (fields_of row.now) result }
     {
         match Fields::of(row) {
             Some(fields) => Row::of_fields(mode, &fields),
-            None => Err(RowFault::Unreadable),
+            None => Err(WrongField {
+                fault: RowFault::Unreadable,
+                field: row.len(),
+                expected: Expected::FiveFields(row.len()),
+            }),
         }
     }
 
-    fn of_fields(mode: Mode, fields: &Fields<'_>) -> Result<Row, RowFault>
-        ensures { IsReadAs mode (five_fields fields.now) result }
+    fn of_fields(mode: Mode, fields: &Fields<'_>) -> Result<Row, WrongField>
+        ensures { IsRowRead mode (five_fields fields.now) result }
     {
         match mode {
             Mode::Replay => Row::of_replay(fields),
@@ -68,61 +73,75 @@ impl Row {
         }
     }
 
-    fn of_replay(fields: &Fields<'_>) -> Result<Row, RowFault>
-        ensures { IsReadAs Mode.Replay (five_fields fields.now) result }
+    fn of_replay(fields: &Fields<'_>) -> Result<Row, WrongField>
+        ensures { IsRowRead Mode.Replay (five_fields fields.now) result }
     {
         match fields.first {
             b"J" => Row::assign(fields.second, fields.third, fields.fourth, fields.fifth),
             b"S" => Row::steps(fields.second, fields.third, fields.fourth, fields.fifth),
-            b"C" => Err(RowFault::OtherMode),
-            _ => Err(RowFault::UnknownKind),
+            b"C" => Err(WrongField::new(RowFault::OtherMode, 0, A_CALL)),
+            _ => Err(WrongField::new(RowFault::UnknownKind, 0, "expected J or S")),
         }
     }
 
-    fn of_live(fields: &Fields<'_>) -> Result<Row, RowFault>
-        ensures { IsReadAs Mode.Live (five_fields fields.now) result }
+    fn of_live(fields: &Fields<'_>) -> Result<Row, WrongField>
+        ensures { IsRowRead Mode.Live (five_fields fields.now) result }
     {
         match fields.first {
-            b"J" | b"S" => Err(RowFault::OtherMode),
+            b"J" | b"S" => Err(WrongField::new(RowFault::OtherMode, 0, A_REPLAY)),
             b"C" => Row::call(fields.second, fields.third, fields.fourth, fields.fifth),
-            _ => Err(RowFault::UnknownKind),
+            _ => Err(WrongField::new(RowFault::UnknownKind, 0, "expected C")),
         }
     }
 
-    fn assign(marker: &[u8], job_no: &[u8], kind: &[u8], args: &[u8]) -> Result<Row, RowFault>
-        ensures { IsReadAs Mode.Replay
+    fn assign(marker: &[u8], job_no: &[u8], kind: &[u8], args: &[u8]) -> Result<Row, WrongField>
+        ensures { IsRowRead Mode.Replay
             (codes "J" ∷ marker.now ∷ job_no.now ∷ kind.now ∷ args.now ∷ []) result }
     {
-        let job = read_job(kind, args)?;
-        let marker = read_number(marker, MARKER_LIMIT).ok_or(RowFault::Malformed)?;
-        let job_no = read_number(job_no, NUMBER_LIMIT).ok_or(RowFault::Malformed)?;
-        Ok(Row::Assign {
-            marker,
-            job_no,
-            job,
-        })
+        if !is_job_kind(kind) {
+            return Err(WrongField::new(RowFault::UnknownKind, 3, "expected D, C or R"));
+        }
+        let marker = number_in(1, marker, MARKER_LIMIT)?;
+        let job_no = number_in(2, job_no, NUMBER_LIMIT)?;
+        match read_job(kind, args) {
+            Ok(job) => Ok(Row::Assign {
+                marker,
+                job_no,
+                job,
+            }),
+            Err(_) => Err(WrongField::new(RowFault::Malformed, 4, expected_args(kind))),
+        }
     }
 
-    fn steps(marker: &[u8], count: &[u8], fourth: &[u8], fifth: &[u8]) -> Result<Row, RowFault>
-        ensures { IsReadAs Mode.Replay
+    fn steps(marker: &[u8], count: &[u8], fourth: &[u8], fifth: &[u8]) -> Result<Row, WrongField>
+        ensures { IsRowRead Mode.Replay
             (codes "S" ∷ marker.now ∷ count.now ∷ fourth.now ∷ fifth.now ∷ []) result }
     {
-        if !fourth.is_empty() || !fifth.is_empty() {
-            return Err(RowFault::Malformed);
+        let marker = number_in(1, marker, MARKER_LIMIT)?;
+        let count = number_in(2, count, NUMBER_LIMIT)?;
+        if !fourth.is_empty() {
+            return Err(WrongField::new(RowFault::Malformed, 3, "expected an empty field"));
         }
-        let marker = read_number(marker, MARKER_LIMIT).ok_or(RowFault::Malformed)?;
-        let count = read_number(count, NUMBER_LIMIT).ok_or(RowFault::Malformed)?;
+        if !fifth.is_empty() {
+            return Err(WrongField::new(RowFault::Malformed, 4, "expected an empty field"));
+        }
         Ok(Row::Steps { marker, count })
     }
 
-    fn call(call_no: &[u8], line: &[u8], dialled: &[u8], hold: &[u8]) -> Result<Row, RowFault>
-        ensures { IsReadAs Mode.Live
+    fn call(call_no: &[u8], line: &[u8], dialled: &[u8], hold: &[u8]) -> Result<Row, WrongField>
+        ensures { IsRowRead Mode.Live
             (codes "C" ∷ call_no.now ∷ line.now ∷ dialled.now ∷ hold.now ∷ []) result }
     {
-        let call_no = read_number(call_no, NUMBER_LIMIT).ok_or(RowFault::Malformed)?;
-        let line = read_line(line)?;
-        let dialled = read_dialled(dialled)?;
-        let release = read_release(hold)?;
+        let call_no = number_in(1, call_no, NUMBER_LIMIT)?;
+        let Ok(line) = read_line(line) else {
+            return Err(WrongField::new(RowFault::Malformed, 2, EXPECTED_LINE));
+        };
+        let Ok(dialled) = read_dialled(dialled) else {
+            return Err(WrongField::new(RowFault::Malformed, 3, "expected seven digits"));
+        };
+        let Ok(release) = read_release(hold) else {
+            return Err(WrongField::new(RowFault::Malformed, 4, "expected K or R"));
+        };
         Ok(Row::Call {
             call_no,
             line,
@@ -132,8 +151,47 @@ impl Row {
     }
 }
 
+/// What is said of a row of the other mode.
+const A_CALL: &str = "this is a call of a live office; expected J or S";
+
+const A_REPLAY: &str = "this is a row of a replay; expected C";
+
+/// What is expected of a line.
+const EXPECTED_LINE: &str =
+    "expected a line of four digits, the third at most 5 and the fourth at most 4";
+
+/// What is expected of the arguments of a job of this kind.
+fn expected_args(kind: &[u8]) -> &'static str {
+    match kind {
+        b"C" => "expected a line, a space and seven digits",
+        _ => EXPECTED_LINE,
+    }
+}
+
+/// Reads the number in the field with this index.
+fn number_in(field: usize, text: &[u8], most: u32) -> Result<u32, WrongField>
+    ensures { MatchResult result (λ number. (number ≤ most) × (text.now ≡ decimal number))
+        (λ wrong. ((number : ℕ) → number ≤ most → text.now ≢ decimal number)
+        × (wrong.fault ≡ RowFault.Malformed)) }
+{
+    match read_number(text, most) {
+        Some(number) => Ok(number),
+        None => Err(WrongField {
+            fault: RowFault::Malformed,
+            field,
+            expected: Expected::NumberTo(most),
+        }),
+    }
+}
+
+fn is_job_kind(kind: &[u8]) -> bool
+    ensures { result ≡ is_kind_of_job kind.now }
+{
+    matches!(kind, b"D" | b"C" | b"R")
+}
+
 /// Reads a job from the last two fields of a `J` row.
-pub fn read_job(kind: &[u8], args: &[u8]) -> Result<Job, RowFault>
+fn read_job(kind: &[u8], args: &[u8]) -> Result<Job, RowFault>
     ensures { IsJobReadAs kind.now args.now result }
 {
     match kind {

@@ -72,7 +72,10 @@ fn judge(mode: Mode, row: &ByteRecord, numbers: &mut Numbers) -> Result<Row, Row
     ensures numbers { IfOk result (λ row. (number : ℕ) → contains numbers.new number ≡
         (contains numbers.old number || has_number number row)) }
 {
-    let row = Row::read(mode, row)?;
+    let row = match Row::read(mode, row) {
+        Ok(row) => row,
+        Err(wrong) => return Err(wrong.fault),
+    };
     let number = match row {
         Row::Assign { job_no, .. } => job_no,
         Row::Steps { .. } => return Ok(row),

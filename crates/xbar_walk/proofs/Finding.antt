@@ -1,11 +1,7 @@
 -- what tests found, test by test
-use Rattle.std.proofs.Common.{◌≡◌, ℕ, Bool, true, false, List, [], ◌∷◌, ◌++◌, append_assoc, append-nil, refl, sym, ◌∙◌, ap}
-use Rattle.std.specs.Prelude.{◌||◌, codes, if◌then◌else◌}
-use Rattle.std.proofs.lemmas.Grind.{flat_map-append}
-use Rattle.xbar_walk.specs.Rows.{finds, row_found}
-use Rattle.xbar_step_text.specs.Shown.{has_any, listed, shown}
-use Rattle.xbar_walk.specs.declared.tested.Tested.{Tested}
-use Rattle.xbar_step_text.proofs.Listed.{any_on, ends_with_none, ends_with_some, listed_on}
+use Rattle.std.proofs.Common.{◌≡◌, ℕ, Bool, true, false, List, [], ◌∷◌, ◌++◌, append_assoc, append-nil, refl, sym, ◌∙◌, ap, ◌||◌, codes, if◌then◌else◌}
+use Rattle.{std.proofs.lemmas.Grind.flat_map-append, xbar_walk.specs.{Rows.{finds, row_found}, declared.tested.Tested.Tested}}
+use Rattle.xbar_step_text.{specs.Shown.{has_any, listed, shown}, proofs.Listed.{any_on, ends_with_none, ends_with_some, listed_on}}
 
 abbrev closed : List ℕ
 closed = codes "closed: "
@@ -24,7 +20,9 @@ none_found first = record { any_is = refl; text_is = sym (append-nil first) }
 
 module _ (tests : List Tested) (tested : Tested) (first now : List ℕ) (any : Bool) (so_far : AreFound tests first now any) where
   more : finds (tests ++ tested ∷ []) ≡ finds tests ++ shown tested.place tested.word
-  more = flat_map-append (λ (t : Tested). shown t.place t.word) tests (tested ∷ []) ∙ ap (λ (texts : List (List ℕ)). finds tests ++ texts) (append-nil (shown tested.place tested.word))
+  more =
+      flat_map-append (λ (t : Tested). shown t.place t.word) tests (tested ∷ [])
+      ∙ ap (λ (texts : List (List ℕ)). finds tests ++ texts) (append-nil (shown tested.place tested.word))
 
   pub one_found : (next lead : List ℕ) (some : Bool) → some ≡ has_any (shown tested.place tested.word) → lead ≡ (if any then between else closed)
       → next ≡ now ++ listed [] lead between (shown tested.place tested.word) → AreFound (tests ++ tested ∷ []) first next (any || some)

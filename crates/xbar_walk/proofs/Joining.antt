@@ -1,13 +1,10 @@
 -- how items are cut into runs
-use Rattle.std.proofs.Common.{◌≡◌, ℕ, suc, ◌-◌, ◌<◌, ◌≤◌, Bool, true, false, List, [], ◌∷◌, ◌++◌, append-nil, get_or, inl, inr, length, refl, sym, ◌∙◌, ap, subst, arith}
-use Rattle.std.specs.Prelude.{◌&&◌, All, flat_map, map, if◌then◌else◌}
-use Rattle.std.specs.List.{AllByRecursion}
-use Rattle.std.proofs.lemmas.List.Elements.{All-from_recursion}
-use Rattle.std.proofs.lemmas.Grind.{flat_map-append}
+use Rattle.std.proofs.Common.{◌≡◌, ℕ, suc, ◌-◌, ◌<◌, ◌≤◌, Bool, true, false, List, [], ◌∷◌, ◌++◌, append-nil, get_or, inl, inr, length, refl, sym, ◌∙◌, ap}
+use Rattle.std.proofs.Common.{subst, arith, ◌&&◌, All, flat_map, map, if◌then◌else◌}
+use Rattle.std.{specs.List.AllByRecursion, proofs.lemmas.{List.Elements.All-from_recursion, Grind.flat_map-append}}
 use Rattle.xbar_walk.specs.Items.{IsRun, Item, Says, Tests, before_runs, in_first, item_lines, joins, joins_first, run_lines, runs_of, tests_of, walk_text_of}
 use Rattle.xbar_walk.specs.Rows.{are_joined, goes_on, is_short, last_of, leads, shares_line, row_line, tests_line, tests_text, test_line}
-use Rattle.xbar_walk.specs.declared.detail.Detail.{Detail}
-use Rattle.xbar_walk.specs.declared.tested.Tested.{Tested}
+use Rattle.xbar_walk.specs.declared.{detail.Detail.Detail, tested.Tested.Tested}
 
 -- whether an item shares the line of the last of these items
 abbrev pub last_joins : Detail → List Item → Item → Bool
@@ -16,7 +13,8 @@ last_joins detail (item ∷ []) next = joins detail item next
 last_joins detail (item ∷ more ∷ later) next = last_joins detail (more ∷ later) next
 
 -- an item begins the first run
-begun_by : (detail : Detail) (item : Item) (later : List Item) → (rest : List Item) × (runs : List (List Item)) × (runs_of detail (item ∷ later) ≡ (item ∷ rest) ∷ runs)
+begun_by : (detail : Detail) (item : Item) (later : List Item)
+    → (rest : List Item) × (runs : List (List Item)) × (runs_of detail (item ∷ later) ≡ (item ∷ rest) ∷ runs)
 unfolding runs_of
 begun_by detail item later = by (joins_first detail item later) (runs_of detail later) where
   by : (joined : Bool) (runs : List (List Item)) → (rest : List Item) × (more : List (List Item)) × (before_runs joined item runs ≡ (item ∷ rest) ∷ more)
@@ -25,7 +23,8 @@ begun_by detail item later = by (joins_first detail item later) (runs_of detail 
   by false runs = ([], runs, refl)
 
 -- runs before others
-before_more : (joined : Bool) (item : Item) (run : List Item) (runs more : List (List Item)) → before_runs joined item ((run ∷ runs) ++ more) ≡ before_runs joined item (run ∷ runs) ++ more
+before_more : (joined : Bool) (item : Item) (run : List Item) (runs more : List (List Item))
+    → before_runs joined item ((run ∷ runs) ++ more) ≡ before_runs joined item (run ∷ runs) ++ more
 before_more true item run runs more = refl
 before_more false item run runs more = refl
 
@@ -76,29 +75,34 @@ and_both : (a b : Bool) → a ≡ true → b ≡ true → (a && b) ≡ true
 and_both a b first second = ap (λ (x : Bool). x && b) first ∙ second
 
 -- the last of them is the last of these items
-leads_is : (detail : Detail) (first : Tested) (later : List Tested) (tested : Tested) → last_joins detail (map Tests (first ∷ later)) (Tests tested) ≡ shares_line detail (first ∷ later) tested
+leads_is : (detail : Detail) (first : Tested) (later : List Tested) (tested : Tested)
+    → last_joins detail (map Tests (first ∷ later)) (Tests tested) ≡ shares_line detail (first ∷ later) tested
 unfolding last_of
 leads_is detail first [] tested = refl
 leads_is detail first (next ∷ later) tested = leads_is detail next later tested
 
-pub leads_by_items : (detail : Detail) (tests : List Tested) (tested : Tested) → last_joins detail (map Tests tests) (Tests tested) ≡ shares_line detail tests tested
+pub leads_by_items : (detail : Detail) (tests : List Tested) (tested : Tested)
+    → last_joins detail (map Tests tests) (Tests tested) ≡ shares_line detail tests tested
 leads_by_items detail [] tested = refl
 leads_by_items detail (first ∷ later) tested = leads_is detail first later tested
 
 -- and one more goes on with them
-pub one_joined : (detail : Detail) (tests : List Tested) (tested : Tested) → are_joined detail tests ≡ true → shares_line detail tests tested ≡ true → are_joined detail (tests ++ tested ∷ []) ≡ true
+pub one_joined : (detail : Detail) (tests : List Tested) (tested : Tested) → are_joined detail tests ≡ true → shares_line detail tests tested ≡ true
+    → are_joined detail (tests ++ tested ∷ []) ≡ true
 unfolding last_of
 one_joined detail [] tested joined leads = absurd cc
 one_joined detail (first ∷ []) tested joined leads = and_both (is_short detail && goes_on first tested) true leads refl
 one_joined detail (first ∷ next ∷ later) tested joined leads =
     let parts = and_parts (is_short detail && goes_on first next) (are_joined detail (next ∷ later)) joined in
-    and_both (is_short detail && goes_on first next) (are_joined detail (next ∷ later ++ tested ∷ [])) parts.0 (one_joined detail (next ∷ later) tested parts.1 leads)
+    and_both (is_short detail && goes_on first next) (are_joined detail (next ∷ later ++ tested ∷ [])) parts.0
+    (one_joined detail (next ∷ later) tested parts.1 leads)
 
 pub alone_joined : (detail : Detail) (tested : Tested) → are_joined detail (tested ∷ []) ≡ true
 alone_joined detail tested = refl
 
 -- they are a run
-one_run : (detail : Detail) (first : Tested) (later : List Tested) → are_joined detail (first ∷ later) ≡ true → runs_of detail (map Tests (first ∷ later)) ≡ map Tests (first ∷ later) ∷ []
+one_run : (detail : Detail) (first : Tested) (later : List Tested) → are_joined detail (first ∷ later) ≡ true
+    → runs_of detail (map Tests (first ∷ later)) ≡ map Tests (first ∷ later) ∷ []
 unfolding runs_of
 one_run detail first [] joined = refl
 one_run detail first (next ∷ later) joined =
@@ -125,7 +129,8 @@ unfolding runs_of
 runs_are_items detail [] = refl
 runs_are_items detail (item ∷ later) =
     by (joins_first detail item later) (runs_of detail later) ∙ ap (λ (items : List Item). item ∷ items) (runs_are_items detail later) where
-      by : (joined : Bool) (runs : List (List Item)) → flat_map (λ (run : List Item). run) (before_runs joined item runs) ≡ item ∷ flat_map (λ (run : List Item). run) runs
+      by : (joined : Bool) (runs : List (List Item))
+          → flat_map (λ (run : List Item). run) (before_runs joined item runs) ≡ item ∷ flat_map (λ (run : List Item). run) runs
       by true [] = refl
       by true (run ∷ runs) = refl
       by false runs = refl
@@ -144,7 +149,8 @@ one_text [] default some few = absurd (omega (arith, some))
 one_text (only ∷ []) default some few = refl
 one_text (first ∷ next ∷ later) default some few = absurd (omega (arith, few))
 
-pub many_text : (tests : List Tested) (default : Tested) → 2 ≤ length tests → row_line (get_or tests 0 default) (get_or tests (length tests - 1) default) tests ≡ tests_text tests
+pub many_text : (tests : List Tested) (default : Tested) → 2 ≤ length tests
+    → row_line (get_or tests 0 default) (get_or tests (length tests - 1) default) tests ≡ tests_text tests
 unfolding tests_line last_of
 many_text [] default many = absurd (omega (arith, many))
 many_text (only ∷ []) default many = absurd (omega (arith, many))
@@ -157,7 +163,8 @@ last_leads detail (first ∷ later) tested default some short =
     ap (λ (last : Tested). goes_on last tested) (last_is first later default) ∙ ap (λ (b : Bool). b && goes_on (last_of first later) tested) short
 
 -- what a push leaves goes on with one another, whether there was memory or not
-pub kept_joined : (detail : Detail) (tests after : List Tested) (tested : Tested) (pushed : Bool) → are_joined detail tests ≡ true → shares_line detail tests tested ≡ true
+pub kept_joined : (detail : Detail) (tests after : List Tested) (tested : Tested) (pushed : Bool) → are_joined detail tests ≡ true
+    → shares_line detail tests tested ≡ true
     → after ≡ (if pushed then tests ++ tested ∷ [] else tests) → are_joined detail after ≡ true
 kept_joined detail tests after tested true joined leads is = ap (are_joined detail) is ∙ one_joined detail tests tested joined leads
 kept_joined detail tests after tested false joined leads is = ap (are_joined detail) is ∙ joined
@@ -183,10 +190,17 @@ each_alone detail (item ∷ later) long =
     ∙ ap (λ (lines : List ℕ). item_lines item ++ lines) (each_alone detail later long)
 
 -- a test before a run that goes on with it is a run with it
-joined_run : (detail : Detail) (before tested : Tested) (rest : List Item) → (is_short detail && goes_on before tested) ≡ true → IsRun detail (Tests tested ∷ rest) → IsRun detail (Tests before ∷ Tests tested ∷ rest)
+joined_run : (detail : Detail) (before tested : Tested) (rest : List Item) → (is_short detail && goes_on before tested) ≡ true
+    → IsRun detail (Tests tested ∷ rest) → IsRun detail (Tests before ∷ Tests tested ∷ rest)
 joined_run detail before tested rest goes (inl one) =
     let none : rest ≡ [] = cc (one.1) in
-    inr (before, tested, [], ap (λ (items : List Item). Tests before ∷ Tests tested ∷ items) none, and_both (is_short detail && goes_on before tested) true goes refl)
+    inr (
+      before,
+      tested,
+      [],
+      ap (λ (items : List Item). Tests before ∷ Tests tested ∷ items) none,
+      and_both (is_short detail && goes_on before tested) true goes refl,
+    )
 joined_run detail before tested rest goes (inr row) =
     let later = row.1 ∷ row.2 in
     let same : tested ≡ row.0 = cc (row.3) in
@@ -195,11 +209,13 @@ joined_run detail before tested rest goes (inr row) =
       row.0,
       later,
       ap (λ (items : List Item). Tests before ∷ items) row.3,
-      and_both (is_short detail && goes_on before row.0) (are_joined detail (row.0 ∷ later)) (ap (λ (test : Tested). is_short detail && goes_on before test) (sym same) ∙ goes) row.4,
+      and_both (is_short detail && goes_on before row.0) (are_joined detail (row.0 ∷ later))
+          (ap (λ (test : Tested). is_short detail && goes_on before test) (sym same) ∙ goes) row.4,
     )
 
 row_begins : (detail : Detail) (before tested : Tested) (later : List Item) (joined : Bool) → (is_short detail && goes_on before tested) ≡ joined
-    → AllByRecursion (IsRun detail) (runs_of detail (Tests tested ∷ later)) → AllByRecursion (IsRun detail) (before_runs joined (Tests before) (runs_of detail (Tests tested ∷ later)))
+    → AllByRecursion (IsRun detail) (runs_of detail (Tests tested ∷ later))
+    → AllByRecursion (IsRun detail) (before_runs joined (Tests before) (runs_of detail (Tests tested ∷ later)))
 row_begins detail before tested later false parted all = (inl (Tests before, refl), all)
 row_begins detail before tested later true goes all =
     let first = begun_by detail (Tests tested) later in
@@ -214,7 +230,8 @@ each_run detail (Says lines ∷ []) = (inl (Says lines, refl), tt)
 each_run detail (Tests tested ∷ []) = (inl (Tests tested, refl), tt)
 each_run detail (Says lines ∷ next ∷ later) = (inl (Says lines, refl), each_run detail (next ∷ later))
 each_run detail (Tests before ∷ Says lines ∷ later) = (inl (Tests before, refl), each_run detail (Says lines ∷ later))
-each_run detail (Tests before ∷ Tests tested ∷ later) = row_begins detail before tested later (is_short detail && goes_on before tested) refl (each_run detail (Tests tested ∷ later))
+each_run detail (Tests before ∷ Tests tested ∷ later) =
+    row_begins detail before tested later (is_short detail && goes_on before tested) refl (each_run detail (Tests tested ∷ later))
 
 -- each run is one
 pub all_runs : (detail : Detail) (items : List Item) → All (IsRun detail) (runs_of detail items)

@@ -1,27 +1,16 @@
 -- how far a settling has come
-use Rattle.std.proofs.Common.{◌≡◌, ℕ, suc, ◌+◌, ◌<◌, Bool, true, false, List, [], ◌∷◌, ◌++◌, length, length-set, refl, sym, ◌∙◌, ap, subst, arith}
-use Rattle.std.specs.Prelude.{Option, Some, None, is_some, if◌then◌else◌, slice_get}
-use Rattle.turns.specs.Attempt.{turn_in}
-use Rattle.turns.specs.World.{Idle, Does}
-use Rattle.xbar_plan.specs.Tables.{Tables}
-use Rattle.xbar_jobs.specs.Attempt.{next_step}
-use Rattle.xbar_moves.specs.AtWork.{IsBackingAt, withdraws_or_frees, withdraws_or_frees_at, is_turned}
-use Rattle.xbar_moves.specs.Exchange.{Exchange, Marker, OfPlan, Work, at_marker, on_job}
-use Rattle.xbar_moves.specs.Moves.{begun_anew, frees_left, given_at, given_back, steps}
-use Rattle.xbar_moves.specs.Settling.{ended, ended_past_turn, for_each, settled}
-use Rattle.xbar_moves.specs.declared.given.Given.{Given}
+use Rattle.std.proofs.Common.{◌≡◌, ℕ, suc, ◌+◌, ◌<◌, Bool, true, false, List, [], ◌∷◌, ◌++◌, length, length-set, refl, sym, ◌∙◌, ap, subst, arith, Option, Some}
+use Rattle.std.proofs.Common.{None, is_some, if◌then◌else◌, slice_get}
+use Rattle.{turns.specs.{Attempt.turn_in, World.{Idle, Does}}, xbar_plan.specs.Tables.Tables, xbar_jobs.specs.Attempt.next_step}
+use Rattle.xbar_moves.specs.{AtWork.{IsBackingAt, withdraws_or_frees, withdraws_or_frees_at, is_turned}, Exchange.{Exchange, Marker, OfPlan, Work, at_marker}}
+use Rattle.xbar_moves.specs.{Exchange.on_job, Moves.{restarted_at, frees_left, given_at, given_back, steps}, Settling.{ended, ended_past_turn, for_each, settled}}
+use Rattle.xbar_moves.proofs.{Backing.{IsBacking, IsGivingUp, starts_back, all_given, back_goes, backing, gave_up, none_given, none_left, one_given}, Jobs.work_at}
+use Rattle.xbar_moves.proofs.Keeping.{restarts_keep, count_back, count_end, count_past, for_each_keeps}
+use Rattle.xbar_walk.specs.{Items.{Item, settling_item}, Observers.{Adds, AgreesWith, ChangesAs}, Parts.{after_part, walk_of_part}}
+use Rattle.xbar_walk.specs.Walks.{Walk, is_past_turn_in, restarted_walk, walk_for_each, walk_of_give_back, walk_of_rollback, walk_of_settling, walk_of_steps}
+use Rattle.xbar_walk.{specs.declared.{detail.Detail.Detail, settling.Part.{Part, TheVariants.{EndPastTurn, GiveBack, End}}}, proofs.ToldSteps.walk_then}
 use Rattle.xbar_moves.specs.declared.given.Given.TheVariants as given
-use Rattle.xbar_moves.proofs.Backing.{IsBacking, IsGivingUp, anew, all_given, back_goes, backing, gave_up, none_given, none_left, one_given}
-use Rattle.xbar_moves.proofs.Jobs.{work_at}
-use Rattle.xbar_moves.proofs.Keeping.{begun_keeps, count_back, count_end, count_past, for_each_keeps}
-use Rattle.xbar_walk.specs.Items.{Item, settling_item}
-use Rattle.xbar_walk.specs.Observers.{Adds, AgreesWith, ChangesAs}
-use Rattle.xbar_walk.specs.Parts.{after_part, walk_of_part}
-use Rattle.xbar_walk.specs.Walks.{Walk, is_past_turn_in, to_begin_anew, walk_for_each, walk_of_give_back, walk_of_rollback, walk_of_settling, walk_of_steps}
-use Rattle.xbar_walk.specs.declared.detail.Detail.{Detail}
-use Rattle.xbar_walk.specs.declared.settling.Part.{Part}
-use Rattle.xbar_walk.specs.declared.settling.Part.TheVariants.{EndPastTurn, GiveBack, End}
-use Rattle.xbar_walk.proofs.ToldSteps.{walk_then}
+use Rattle.xbar_moves.specs.declared.given.Given.{Given}
 
 -- the office once marker k is brought to its end if it is past its turn
 module _ (plan : Tables) (k : ℕ) (e : Exchange) where
@@ -32,7 +21,8 @@ module _ (plan : Tables) (k : ℕ) (e : Exchange) where
   past_by Idle = refl
   past_by (Does n a) = refl
 
-  past_of : (found : Option Marker) → at_marker e (λ m. on_job e (λ n a. ended_if (is_some (turn_in a.phase))) m.work) found ≡ ended_if (at_marker false (λ m. is_turned m.work) found)
+  past_of : (found : Option Marker)
+      → at_marker e (λ m. on_job e (λ n a. ended_if (is_some (turn_in a.phase))) m.work) found ≡ ended_if (at_marker false (λ m. is_turned m.work) found)
   past_of None = refl
   past_of (Some m) = past_by m.work
 
@@ -40,17 +30,20 @@ module _ (plan : Tables) (k : ℕ) (e : Exchange) where
   past_ended past is = past_of (slice_get e.markers k) ∙ ap ended_if is
 
 -- a marker gives up what it holds: it has made some steps, and has so many less to make
-pub record HasGivenUp {O : Type 0} (Describes : O → Detail → ℕ → List Item → Type 0) (first : OfPlan) (observer : O) (now : OfPlan) (observed : O) (k : ℕ) : Type 0 where
+pub record HasGivenUp {O : Type 0} (Describes : O → Detail → ℕ → List Item → Type 0) (first : OfPlan) (observer : O) (now : OfPlan) (observed : O)
+    (k : ℕ) : Type 0 where
   pub office : IsGivingUp first now k
   pub made : ℕ
   pub less : made + frees_left now.exchange k ≡ frees_left first.exchange k
   pub seen : ChangesAs Describes (walk_of_steps k made) first observer now observed
 
-pub none_up : {O : Type 0} (Describes : O → Detail → ℕ → List Item → Type 0) (first : OfPlan) (observer : O) (k : ℕ) → IsBackingAt (slice_get first.exchange.markers k) → HasGivenUp Describes first observer first observer k
+pub none_up : {O : Type 0} (Describes : O → Detail → ℕ → List Item → Type 0) (first : OfPlan) (observer : O) (k : ℕ)
+    → IsBackingAt (slice_get first.exchange.markers k) → HasGivenUp Describes first observer first observer k
 unfolding walk_of_steps
 none_up Describes first observer k backs = record { office = none_given first k backs; made = 0; less = omega arith; seen = λ w agrees. agrees }
 
-module _ {O : Type 0} (Describes : O → Detail → ℕ → List Item → Type 0) (first now : OfPlan) (observer observed : O) (k : ℕ) (so_far : HasGivenUp Describes first observer now observed k) where
+module _ {O : Type 0} (Describes : O → Detail → ℕ → List Item → Type 0) (first now : OfPlan) (observer observed : O) (k : ℕ)
+    (so_far : HasGivenUp Describes first observer now observed k) where
   module _ (m : Marker) (there : slice_get now.exchange.markers k ≡ Some m) where
     back : IsBacking now.exchange k
     back = backing now.exchange k so_far.office.backs
@@ -58,7 +51,8 @@ module _ {O : Type 0} (Describes : O → Detail → ℕ → List Item → Type 0
     next_up : withdraws_or_frees (next_step back.attempt) ≡ withdraws_or_frees_at m.work
     next_up = ap withdraws_or_frees_at (sym (work_at now.exchange k back.number back.attempt m back.at there))
 
-    pub one_up : (next : OfPlan) (more : O) → withdraws_or_frees_at m.work ≡ true → next ≡ record now { exchange = steps now.plan k 1 now.exchange } → ChangesAs Describes (walk_of_steps k 1) now observed next more
+    pub one_up : (next : OfPlan) (more : O) → withdraws_or_frees_at m.work ≡ true → next ≡ record now { exchange = steps now.plan k 1 now.exchange }
+        → ChangesAs Describes (walk_of_steps k 1) now observed next more
         → HasGivenUp Describes first observer next more k × (frees_left next.exchange k < frees_left now.exchange k)
     unfolding steps
     one_up next more goes is changes =
@@ -68,7 +62,9 @@ module _ {O : Type 0} (Describes : O → Detail → ℕ → List Item → Type 0
             office = one_given first now next k m there so_far.office goes is;
             made = so_far.made + 1;
             less = omega (arith, so_far.less, gave.one, left);
-            seen = λ w agrees. subst (AgreesWith Describes next more) (sym (walk_then k so_far.made 1 w)) (changes (walk_of_steps k so_far.made w) (so_far.seen w agrees));
+            seen =
+                λ w agrees. subst (AgreesWith Describes next more) (sym (walk_then k so_far.made 1 w))
+                (changes (walk_of_steps k so_far.made w) (so_far.seen w agrees));
           },
           omega (arith, gave.one, left),
         )
@@ -77,8 +73,10 @@ module _ {O : Type 0} (Describes : O → Detail → ℕ → List Item → Type 0
         × ChangesAs Describes (walk_of_steps k (frees_left first.exchange k)) first observer now observed
     all_up rests =
         let none = none_left now.plan now.exchange k back (next_up ∙ rests) in
-        let all : so_far.made ≡ frees_left first.exchange k = omega (arith, so_far.less, none) in
-        (all_given first now now k m there so_far.office rests, subst (λ (n : ℕ). ChangesAs Describes (walk_of_steps k n) first observer now observed) all so_far.seen)
+        let all : so_far.made ≡ frees_left first.exchange k = omega (arith, so_far.less, none) in (
+          all_given first now now k m there so_far.office rests,
+          subst (λ (n : ℕ). ChangesAs Describes (walk_of_steps k n) first observer now observed) all so_far.seen,
+        )
 
 -- giving back, by what marker k answers
 pub given_walk : (k : ℕ) (w : Walk) (what : Given) → given_at w.office.exchange k ≡ what → walk_of_give_back k w ≡ walk_of_rollback what k w
@@ -93,32 +91,36 @@ given_none k w not = by (given_at w.office.exchange k) refl where
   by given.Idle is = given_walk k w given.Idle is
 
 -- a marker that gives back is to begin its job anew, and then gives up what it holds
-module _ (o begun : OfPlan) (k : ℕ) (gives : given_at o.exchange k ≡ given.Given) (is : begun ≡ record o { exchange = begun_anew o.plan k o.exchange }) where
-  pub anew_within : k < length o.exchange.markers → k < length begun.exchange.markers
-  anew_within within =
-      let kept = begun_keeps o.plan (λ (x : Exchange). length x.markers ≡ length o.exchange.markers) k (λ x n a same at. length-set x.markers k _ ∙ same) o.exchange refl in
+module _ (o begun : OfPlan) (k : ℕ) (gives : given_at o.exchange k ≡ given.Given) (is : begun ≡ record o { exchange = restarted_at o.plan k o.exchange }) where
+  pub restarted_within : k < length o.exchange.markers → k < length begun.exchange.markers
+  restarted_within within =
+      let kept =
+      restarts_keep o.plan (λ (x : Exchange). length x.markers ≡ length o.exchange.markers) k (λ x n a same at. length-set x.markers k _ ∙ same) o.exchange
+      refl in
       let same = ap (λ (x : OfPlan). length x.exchange.markers) is in
       omega (arith, kept, same, within)
 
-  pub anew_backs : IsBackingAt (slice_get begun.exchange.markers k)
-  anew_backs = subst (λ (x : OfPlan). IsBackingAt (slice_get x.exchange.markers k)) (sym is) (anew o.plan o.exchange k gives).0
+  pub restarted_backs : IsBackingAt (slice_get begun.exchange.markers k)
+  restarted_backs = subst (λ (x : OfPlan). IsBackingAt (slice_get x.exchange.markers k)) (sym is) (starts_back o.plan o.exchange k gives).0
 
-  pub gave_back : (last : OfPlan) → last ≡ record begun { exchange = steps begun.plan k (frees_left begun.exchange k) begun.exchange } → last ≡ record o { exchange = given_back o.plan k o.exchange }
+  pub gave_back : (last : OfPlan) → last ≡ record begun { exchange = steps begun.plan k (frees_left begun.exchange k) begun.exchange }
+      → last ≡ record o { exchange = given_back o.plan k o.exchange }
   gave_back last up =
       up ∙ ap (λ (x : OfPlan). record x { exchange = steps x.plan k (frees_left x.exchange k) x.exchange }) is
-      ∙ ap (λ (count : ℕ). record o { exchange = steps o.plan k count (begun_anew o.plan k o.exchange) }) (anew o.plan o.exchange k gives).1
+      ∙ ap (λ (count : ℕ). record o { exchange = steps o.plan k count (restarted_at o.plan k o.exchange) }) (starts_back o.plan o.exchange k gives).1
       ∙ ap (λ (x : Exchange). record o { exchange = x }) (sym (back_goes o.plan o.exchange k gives))
 
   pub sees_back : {O : Type 0} (Describes : O → Detail → ℕ → List Item → Type 0) (last : OfPlan) (observer observed : O)
-      → ChangesAs Describes (walk_of_steps k (frees_left begun.exchange k)) begun observer last observed → ChangesAs Describes (walk_of_give_back k) o observer last observed
+      → ChangesAs Describes (walk_of_steps k (frees_left begun.exchange k)) begun observer last observed
+      → ChangesAs Describes (walk_of_give_back k) o observer last observed
   sees_back Describes last observer observed changes w agrees =
       let at = agrees.office_is in
-      let anew_is : begun ≡ (to_begin_anew k w).office = is ∙ ap (λ (x : OfPlan). record x { exchange = begun_anew x.plan k x.exchange }) (sym at) in
+      let restarted_office : begun ≡ (restarted_walk k w).office = is ∙ ap (λ (x : OfPlan). record x { exchange = restarted_at x.plan k x.exchange }) (sym at) in
       let here : given_at w.office.exchange k ≡ given.Given = ap (λ (x : OfPlan). given_at x.exchange k) at ∙ gives in
       let count : frees_left begun.exchange k ≡ frees_left w.office.exchange k =
-      ap (λ (x : OfPlan). frees_left x.exchange k) anew_is ∙ (anew w.office.plan w.office.exchange k here).1 in
-      subst (AgreesWith Describes last observed) (ap (λ (n : ℕ). walk_of_steps k n (to_begin_anew k w)) count ∙ sym (given_walk k w given.Given here))
-      (changes (to_begin_anew k w) (record { office_is = sym anew_is; described = agrees.described }))
+      ap (λ (x : OfPlan). frees_left x.exchange k) restarted_office ∙ (starts_back w.office.plan w.office.exchange k here).1 in
+      subst (AgreesWith Describes last observed) (ap (λ (n : ℕ). walk_of_steps k n (restarted_walk k w)) count ∙ sym (given_walk k w given.Given here))
+      (changes (restarted_walk k w) (record { office_is = sym restarted_office; described = agrees.described }))
 
 -- as many markers stay
 abbrev pub KeepsCount : (Tables → ℕ → Exchange → Exchange) → Type 0
@@ -130,10 +132,12 @@ part_counts GiveBack = λ plan k e. count_back plan k e
 part_counts End = λ plan k e. count_end plan k e
 
 each_counts : (part : Part) (plan : Tables) (count : ℕ) (e : Exchange) → length (for_each (after_part part plan) count e).markers ≡ length e.markers
-each_counts part plan count e = for_each_keeps (λ (x : Exchange). length x.markers ≡ length e.markers) (after_part part plan) (λ k x is. part_counts part plan k x ∙ is) count e refl
+each_counts part plan count e =
+    for_each_keeps (λ (x : Exchange). length x.markers ≡ length e.markers) (after_part part plan) (λ k x is. part_counts part plan k x ∙ is) count e refl
 
 -- the first `made` markers have done their part
-pub record HaveDone {O : Type 0} (Describes : O → Detail → ℕ → List Item → Type 0) (part : Part) (first : OfPlan) (observer : O) (now : OfPlan) (observed : O) (made : ℕ) : Type 0 where
+pub record HaveDone {O : Type 0} (Describes : O → Detail → ℕ → List Item → Type 0) (part : Part) (first : OfPlan) (observer : O) (now : OfPlan) (observed : O)
+    (made : ℕ) : Type 0 where
   pub office : now ≡ record first { exchange = for_each (after_part part first.plan) made first.exchange }
   pub seen : ChangesAs Describes (walk_for_each (walk_of_part part) made) first observer now observed
 
@@ -146,7 +150,8 @@ module _ {O : Type 0} (Describes : O → Detail → ℕ → List Item → Type 0
     pub count_kept : length now.exchange.markers ≡ length first.exchange.markers
     count_kept = ap (λ (o : OfPlan). length o.exchange.markers) so_far.office ∙ each_counts part first.plan made first.exchange
 
-    pub one_done : (next : OfPlan) (more : O) → next ≡ record now { exchange = after_part part now.plan made now.exchange } → ChangesAs Describes (walk_of_part part made) now observed next more
+    pub one_done : (next : OfPlan) (more : O) → next ≡ record now { exchange = after_part part now.plan made now.exchange }
+        → ChangesAs Describes (walk_of_part part made) now observed next more
         → HaveDone Describes part first observer next more (made + 1)
     unfolding for_each walk_for_each
     one_done next more is changes =
@@ -160,7 +165,8 @@ module _ {O : Type 0} (Describes : O → Detail → ℕ → List Item → Type 0
 abbrev after_each : Part → OfPlan → OfPlan
 after_each part o = record o { exchange = for_each (after_part part o.plan) (length o.exchange.markers) o.exchange }
 
-module _ (first past back last : OfPlan) (one : past ≡ after_each EndPastTurn first) (two : back ≡ after_each GiveBack past) (three : last ≡ after_each End back) where
+module _ (first past back last : OfPlan) (one : past ≡ after_each EndPastTurn first) (two : back ≡ after_each GiveBack past)
+    (three : last ≡ after_each End back) where
   past_counts : length past.exchange.markers ≡ length first.exchange.markers
   past_counts = ap (λ (o : OfPlan). length o.exchange.markers) one ∙ each_counts EndPastTurn first.plan (length first.exchange.markers) first.exchange
 
@@ -173,9 +179,11 @@ module _ (first past back last : OfPlan) (one : past ≡ after_each EndPastTurn 
   pub settled_is : last ≡ record first { exchange = settled first.plan first.exchange }
   settled_is =
       three ∙ ap (λ (n : ℕ). of_count End n back) back_counts
-      ∙ ap (of_count End (length first.exchange.markers)) (two ∙ ap (λ (n : ℕ). of_count GiveBack n past) past_counts ∙ ap (of_count GiveBack (length first.exchange.markers)) one)
+      ∙ ap (of_count End (length first.exchange.markers))
+      (two ∙ ap (λ (n : ℕ). of_count GiveBack n past) past_counts ∙ ap (of_count GiveBack (length first.exchange.markers)) one)
 
-  pub settling_seen : {O : Type 0} (Describes : O → Detail → ℕ → List Item → Type 0) (observer said ended given all : O) → Adds Describes settling_item observer said
+  pub settling_seen : {O : Type 0} (Describes : O → Detail → ℕ → List Item → Type 0) (observer said ended given all : O)
+      → Adds Describes settling_item observer said
       → ChangesAs Describes (walk_for_each (walk_of_part EndPastTurn) (length first.exchange.markers)) first said past ended
       → ChangesAs Describes (walk_for_each (walk_of_part GiveBack) (length past.exchange.markers)) past ended back given
       → ChangesAs Describes (walk_for_each (walk_of_part End) (length back.exchange.markers)) back given last all
@@ -185,9 +193,15 @@ module _ (first past back last : OfPlan) (one : past ≡ after_each EndPastTurn 
       let n : ℕ = length first.exchange.markers in
       let at_ended = ends begun (record { office_is = agrees.office_is; described = adds w.detail w.number w.items agrees.described }) in
       let at_given = gives (walk_for_each (walk_of_part EndPastTurn) n begun) at_ended in
-      let at_all = finishes (walk_for_each (walk_of_part GiveBack) (length past.exchange.markers) (walk_for_each (walk_of_part EndPastTurn) n begun)) at_given in
-      let same : walk_for_each (walk_of_part End) (length back.exchange.markers) (walk_for_each (walk_of_part GiveBack) (length past.exchange.markers) (walk_for_each (walk_of_part EndPastTurn) n begun)) ≡ walk_of_settling w =
-      ap (λ (count : ℕ). walk_for_each (walk_of_part End) count (walk_for_each (walk_of_part GiveBack) (length past.exchange.markers) (walk_for_each (walk_of_part EndPastTurn) n begun))) back_counts
-      ∙ ap (λ (count : ℕ). walk_for_each (walk_of_part End) n (walk_for_each (walk_of_part GiveBack) count (walk_for_each (walk_of_part EndPastTurn) n begun))) past_counts
-      ∙ ap (λ (count : ℕ). walk_for_each (walk_of_part End) count (walk_for_each (walk_of_part GiveBack) count (walk_for_each (walk_of_part EndPastTurn) count begun))) (sym (ap (λ (o : OfPlan). length o.exchange.markers) agrees.office_is)) in
+      let at_all =
+      finishes (walk_for_each (walk_of_part GiveBack) (length past.exchange.markers) (walk_for_each (walk_of_part EndPastTurn) n begun)) at_given in
+      let same : walk_for_each (walk_of_part End) (length back.exchange.markers)
+      (walk_for_each (walk_of_part GiveBack) (length past.exchange.markers) (walk_for_each (walk_of_part EndPastTurn) n begun)) ≡ walk_of_settling w =
+      ap (λ (count : ℕ). walk_for_each (walk_of_part End) count
+      (walk_for_each (walk_of_part GiveBack) (length past.exchange.markers) (walk_for_each (walk_of_part EndPastTurn) n begun))) back_counts
+      ∙ ap (λ (count : ℕ). walk_for_each (walk_of_part End) n (walk_for_each (walk_of_part GiveBack) count (walk_for_each (walk_of_part EndPastTurn) n begun)))
+      past_counts
+      ∙ ap (λ (count : ℕ). walk_for_each (walk_of_part End) count
+      (walk_for_each (walk_of_part GiveBack) count (walk_for_each (walk_of_part EndPastTurn) count begun)))
+      (sym (ap (λ (o : OfPlan). length o.exchange.markers) agrees.office_is)) in
       subst (AgreesWith Describes last all) same at_all

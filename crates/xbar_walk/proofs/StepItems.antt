@@ -1,18 +1,11 @@
 -- the item of an event: a test, or the lines of any other event; or its object
-use Rattle.std.proofs.Common.{◌≡◌, ℕ, true, false, List, ◌++◌, append-nil, refl, sym, ◌∙◌, ap}
-use Rattle.std.specs.Prelude.{codes}
-use Rattle.xbar_office.specs.declared.job.Job.{Job}
-use Rattle.xbar_office.specs.declared.reply.Record.{Record}
-use Rattle.xbar_jobs.specs.declared.step.Step.{Step}
-use Rattle.xbar_jobs.specs.declared.step.Step.TheVariants as step
-use Rattle.xbar_step_text.specs.Lines.{assignment_line, settling_line, step_lines}
-use Rattle.xbar_step_text.specs.Objects.{assignment_object, settling_object, step_object}
-use Rattle.xbar_step_text.specs.Places.{place_of}
-use Rattle.xbar_step_text.specs.declared.observation.Observation.{Observation}
-use Rattle.xbar_step_text.specs.declared.place.Place.{Place}
+use Rattle.std.proofs.Common.{◌≡◌, ℕ, true, false, List, ◌++◌, append-nil, refl, sym, ◌∙◌, ap, codes}
+use Rattle.{xbar_office.specs.declared.{job.Job.Job, reply.Record.Record}, xbar_jobs.specs.declared.step.Step.Step}
+use Rattle.xbar_step_text.specs.{Lines.{assignment_line, settling_line, step_lines}, Objects.{assignment_object, settling_object, step_object}, Places.place_of}
+use Rattle.xbar_step_text.specs.declared.{observation.Observation.Observation, place.Place.Place}
 use Rattle.xbar_walk.specs.Items.{Item, Says, Tests, after_object, assignment_item, before_object, is_json, item_in, item_of, settling_item, step_item}
-use Rattle.xbar_walk.specs.declared.detail.Detail.{Detail}
-use Rattle.xbar_walk.specs.declared.detail.Detail.TheVariants.{Each, Short, JsonLines, JsonList}
+use Rattle.xbar_walk.specs.declared.detail.Detail.{Detail, TheVariants.{Each, Short, JsonLines, JsonList}}
+use Rattle.xbar_jobs.specs.declared.step.Step.TheVariants as step
 
 -- an object with what is written around it
 abbrev pub framed : Detail → List ℕ → List ℕ
@@ -39,11 +32,13 @@ module _ (detail : Detail) (number marker : ℕ) (observed : Observation) (recor
       ∙ sym (ap (λ (made : Step). item_of made number marker observed records) is)
       ∙ in_words detail _ (step_object number marker observed records) words
 
-  said : (made : Step) → ((word : ℕ) → made ≡ step.Test word → ⊥) → Says (step_lines number marker observed records) ≡ item_of made number marker observed records
+  said : (made : Step) → ((word : ℕ) → made ≡ step.Test word → ⊥)
+      → Says (step_lines number marker observed records) ≡ item_of made number marker observed records
   said (step.Test word) other = absurd (other word refl)
   said _ other = refl
 
-  pub other_item : is_json detail ≡ false → ((word : ℕ) → observed.step ≡ step.Test word → ⊥) → Says (step_lines number marker observed records) ≡ step_item detail number marker observed records
+  pub other_item : is_json detail ≡ false → ((word : ℕ) → observed.step ≡ step.Test word → ⊥)
+      → Says (step_lines number marker observed records) ≡ step_item detail number marker observed records
   unfolding step_item
   other_item words other = said observed.step other ∙ in_words detail _ (step_object number marker observed records) words
 

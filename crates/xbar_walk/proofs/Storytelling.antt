@@ -1,19 +1,12 @@
 -- what a story describes, item by item
-use Rattle.std.proofs.Common.{◌≡◌, ℕ, true, false, List, [], ◌∷◌, ◌++◌, append_assoc, append-nil, sym, subst, ◌∙◌, ap}
-use Rattle.std.specs.Prelude.{map, string_bytes}
-use Rattle.std.proofs.lemmas.List.{map-append}
-use Rattle.xbar_walk.specs.Items.{Item, Says, Tests, after_object, before_object, walk_text_of}
-use Rattle.xbar_walk.specs.Rows.{are_joined, shares_line, tests_text}
-use Rattle.xbar_walk.specs.Observers.{Adds}
-use Rattle.xbar_walk.specs.Stories.{IsStory}
-use Rattle.xbar_walk.specs.declared.story.Story.{Story}
-use Rattle.xbar_walk.specs.declared.detail.Detail.{Detail}
-use Rattle.xbar_walk.specs.declared.tested.Tested.{Tested}
-use Rattle.xbar_walk.proofs.Joining.{joined_text, leads_by_items, said_between, text_cut}
-use Rattle.xbar_walk.proofs.StepItems.{framed}
+use Rattle.std.proofs.Common.{◌≡◌, ℕ, true, false, List, [], ◌∷◌, ◌++◌, append_assoc, append-nil, sym, subst, ◌∙◌, ap, map, string_bytes}
+use Rattle.{std.proofs.lemmas.List.map-append, xbar_walk.specs.Items.{Item, Says, Tests, after_object, before_object, walk_text_of}}
+use Rattle.xbar_walk.specs.{Rows.{are_joined, shares_line, tests_text}, Observers.Adds, Stories.IsStory, declared.{story.Story.Story, detail.Detail.Detail}}
+use Rattle.xbar_walk.{specs.declared.tested.Tested.Tested, proofs.{Joining.{joined_text, leads_by_items, said_between, text_cut}, StepItems.framed}}
 
 -- a new story has no items
-pub begins : (story : Story) (detail : Detail) → story.detail ≡ detail → story.number ≡ 0 → string_bytes story.text ≡ [] → story.tests.items ≡ [] → IsStory story detail 0 []
+pub begins : (story : Story) (detail : Detail) → story.detail ≡ detail → story.number ≡ 0 → string_bytes story.text ≡ [] → story.tests.items ≡ []
+    → IsStory story detail 0 []
 begins story detail same number text tests = record {
   telling_is = same;
   number_is = number;
@@ -24,13 +17,16 @@ begins story detail same number text tests = record {
 }
 
 -- what is added may be told in another way, if it is the same in the story's detail
-pub same_added : (story next : Story) (item other : Detail → Item) → item story.detail ≡ other story.detail → Adds IsStory item story next → Adds IsStory other story next
+pub same_added : (story next : Story) (item other : Detail → Item) → item story.detail ≡ other story.detail → Adds IsStory item story next
+    → Adds IsStory other story next
 same_added story next item other is adds detail number items was =
-    subst (λ (added : Item). IsStory next detail number (items ++ added ∷ [])) (ap item (sym was.telling_is) ∙ is ∙ ap other was.telling_is) (adds detail number items was)
+    subst (λ (added : Item). IsStory next detail number (items ++ added ∷ [])) (ap item (sym was.telling_is) ∙ is ∙ ap other was.telling_is)
+    (adds detail number items was)
 
 module _ (story next : Story) (same : next.detail ≡ story.detail) where
   -- a test that shares the line of the pending tests
-  pub test_kept : (tested : Tested) → next.number ≡ story.number → string_bytes next.text ≡ string_bytes story.text → next.tests.items ≡ story.tests.items ++ tested ∷ []
+  pub test_kept : (tested : Tested) → next.number ≡ story.number → string_bytes next.text ≡ string_bytes story.text
+      → next.tests.items ≡ story.tests.items ++ tested ∷ []
       → Adds IsStory (λ detail. Tests tested) story next
   test_kept tested number text tests detail count items was = record {
     telling_is = same ∙ was.telling_is;
@@ -38,7 +34,8 @@ module _ (story next : Story) (same : next.detail ≡ story.detail) where
     text_is = λ later.
         ap (walk_text_of detail) (append_assoc items (Tests tested ∷ []) later)
         ∙ was.text_is (Tests tested ∷ later)
-        ∙ ap (λ (all : List Item). string_bytes story.text ++ walk_text_of detail all) (sym (append_assoc (map Tests story.tests.items) (Tests tested ∷ []) later))
+        ∙ ap (λ (all : List Item). string_bytes story.text ++ walk_text_of detail all)
+        (sym (append_assoc (map Tests story.tests.items) (Tests tested ∷ []) later))
         ∙ ap (λ (all : List Item). string_bytes story.text ++ walk_text_of detail (all ++ later)) (sym (map-append Tests story.tests.items (tested ∷ [])))
         ∙ ap (λ (kept : List Tested). string_bytes story.text ++ walk_text_of detail (map Tests kept ++ later)) (sym tests)
         ∙ ap (λ (t : List ℕ). t ++ walk_text_of detail (map Tests next.tests.items ++ later)) (sym text);
@@ -46,7 +43,8 @@ module _ (story next : Story) (same : next.detail ≡ story.detail) where
 
   -- a test that doesn't: the tests before it are written
   pub test_begins : (tested : Tested) → are_joined story.detail story.tests.items ≡ true → shares_line story.detail story.tests.items tested ≡ false
-      → next.number ≡ story.number → string_bytes next.text ≡ string_bytes story.text ++ tests_text story.tests.items → next.tests.items ≡ tested ∷ [] → Adds IsStory (λ detail. Tests tested) story next
+      → next.number ≡ story.number → string_bytes next.text ≡ string_bytes story.text ++ tests_text story.tests.items → next.tests.items ≡ tested ∷ []
+      → Adds IsStory (λ detail. Tests tested) story next
   test_begins tested joined parted number text tests detail count items was =
       let kept = map Tests story.tests.items in
       let whole : walk_text_of detail kept ≡ tests_text story.tests.items =
@@ -58,7 +56,8 @@ module _ (story next : Story) (same : next.detail ≡ story.detail) where
             ap (walk_text_of detail) (append_assoc items (Tests tested ∷ []) later)
             ∙ was.text_is (Tests tested ∷ later)
             ∙ ap (λ (t : List ℕ). string_bytes story.text ++ t)
-            (text_cut detail kept (Tests tested) later (leads_by_items detail story.tests.items tested ∙ ap (λ (t : Detail). shares_line t story.tests.items tested) (sym was.telling_is) ∙ parted)
+            (text_cut detail kept (Tests tested) later (leads_by_items detail story.tests.items tested
+            ∙ ap (λ (t : Detail). shares_line t story.tests.items tested) (sym was.telling_is) ∙ parted)
             ∙ ap (λ (t : List ℕ). t ++ walk_text_of detail (Tests tested ∷ later)) whole)
             ∙ sym (append_assoc (string_bytes story.text) (tests_text story.tests.items) (walk_text_of detail (Tests tested ∷ later)))
             ∙ ap (λ (t : List ℕ). t ++ walk_text_of detail (Tests tested ∷ later)) (sym text)
@@ -67,7 +66,8 @@ module _ (story next : Story) (same : next.detail ≡ story.detail) where
 
   -- other lines: the tests before them are written
   pub lines_added : (lines : List ℕ) → are_joined story.detail story.tests.items ≡ true
-      → next.number ≡ story.number → string_bytes next.text ≡ (string_bytes story.text ++ tests_text story.tests.items) ++ lines → next.tests.items ≡ [] → Adds IsStory (λ detail. Says lines) story next
+      → next.number ≡ story.number → string_bytes next.text ≡ (string_bytes story.text ++ tests_text story.tests.items) ++ lines → next.tests.items ≡ []
+      → Adds IsStory (λ detail. Says lines) story next
   lines_added lines joined number text tests detail count items was =
       let kept = map Tests story.tests.items in
       let whole : walk_text_of detail kept ≡ tests_text story.tests.items =
@@ -87,11 +87,13 @@ module _ (story next : Story) (same : next.detail ≡ story.detail) where
       }
 
   pub item_added : (lines : List ℕ) (item : Detail → Item) → Says lines ≡ item story.detail → are_joined story.detail story.tests.items ≡ true
-      → next.number ≡ story.number → string_bytes next.text ≡ (string_bytes story.text ++ tests_text story.tests.items) ++ lines → next.tests.items ≡ [] → Adds IsStory item story next
+      → next.number ≡ story.number → string_bytes next.text ≡ (string_bytes story.text ++ tests_text story.tests.items) ++ lines → next.tests.items ≡ []
+      → Adds IsStory item story next
   item_added lines item is joined number text tests = same_added story next (λ detail. Says lines) item is (lines_added lines joined number text tests)
 
   -- so too an object, with what is written around it
-  pub object_added : (object t before after : List ℕ) (item : Detail → Item) → Says (framed story.detail object) ≡ item story.detail → are_joined story.detail story.tests.items ≡ true
+  pub object_added : (object t before after : List ℕ) (item : Detail → Item) → Says (framed story.detail object) ≡ item story.detail
+      → are_joined story.detail story.tests.items ≡ true
       → t ≡ string_bytes story.text ++ tests_text story.tests.items → before ≡ before_object story.detail → after ≡ after_object story.detail
       → next.number ≡ story.number → string_bytes next.text ≡ t ++ (before ++ (object ++ after)) → next.tests.items ≡ [] → Adds IsStory item story next
   object_added object t before after item is joined texts opens closes number text tests =
@@ -107,7 +109,8 @@ pub ends : (story : Story) (text : List ℕ) → are_joined story.detail story.t
     → (detail : Detail) (number : ℕ) (items : List Item) → IsStory story detail number items → text ≡ walk_text_of detail items
 ends story text joined is detail number items was =
     is
-    ∙ ap (λ (t : List ℕ). string_bytes story.text ++ t) (sym (joined_text story.detail story.tests.items joined) ∙ ap (λ (t : Detail). walk_text_of t (map Tests story.tests.items)) was.telling_is)
+    ∙ ap (λ (t : List ℕ). string_bytes story.text ++ t)
+    (sym (joined_text story.detail story.tests.items joined) ∙ ap (λ (t : Detail). walk_text_of t (map Tests story.tests.items)) was.telling_is)
     ∙ ap (λ (all : List Item). string_bytes story.text ++ walk_text_of detail all) (sym (append-nil (map Tests story.tests.items)))
     ∙ sym (was.text_is [])
     ∙ ap (walk_text_of detail) (append-nil items)

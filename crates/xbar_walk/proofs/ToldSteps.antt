@@ -1,28 +1,14 @@
 -- what a described step does to an office, and the invariant of loops over described steps
-use Rattle.std.proofs.Common.{◌≡◌, ℕ, zero, suc, ◌+◌, ◌-◌, ◌<◌, ◌≤◌, Bool, true, false, [], ◌∷◌, ◌++◌, drop, length, length-append, refl, sym, ◌∙◌, ap, subst, arith}
-use Rattle.std.specs.Prelude.{Option, Some, None, if◌then◌else◌, slice_get}
-use Rattle.xbar_plan.specs.Tables.{Tables}
-use Rattle.xbar_office.specs.declared.reply.Record.{Record}
-use Rattle.xbar_jobs.specs.declared.step.Step.{Step}
+use Rattle.std.proofs.Common.{◌≡◌, ℕ, zero, suc, ◌+◌, ◌-◌, ◌<◌, ◌≤◌, Bool, true, false, [], ◌∷◌, ◌++◌, drop, length, length-append, refl, sym, ◌∙◌, ap, subst}
+use Rattle.std.proofs.Common.{arith, Option, Some, None, if◌then◌else◌, slice_get}
+use Rattle.{xbar_plan.specs.Tables.Tables, xbar_office.specs.declared.reply.Record.Record, xbar_jobs.specs.declared.step.Step.Step}
+use Rattle.xbar_moves.specs.{AtWork.{is_turned, next_step_at}, Exchange.{Exchange, Marker, OfPlan, at_marker, is_idle}}
+use Rattle.xbar_moves.{specs.{Moves.{after_step, event_at_step, steps}, Runs.Steps, declared.event.Event.Event}, proofs.Markers.none_within}
+use Rattle.{xbar_moves.proofs.{StepCases.step_count, Stepping.step_idle}, xbar_core.proofs.{GrownRecords.move_begins, Loops.{AreLeft, all_left, some_made}}}
+use Rattle.xbar_walk.specs.{Walks.{Walk, added_by, walk_of_step, is_idle_in, is_past_turn_in, next_of, observation_of, walk_of_steps}, Items.{Item, step_item}}
+use Rattle.xbar_walk.specs.{Observers.{AgreesWith, ChangesAs}, Stories.{AddsStep, IsStory}, declared.story.Story.Story}
+use Rattle.xbar_step_text.specs.{Lines.one_more, Observed.found_by, declared.observation.Observation.Observation}
 use Rattle.xbar_jobs.specs.declared.step.Step.TheVariants as step
-use Rattle.xbar_moves.specs.AtWork.{is_turned, next_step_at}
-use Rattle.xbar_moves.specs.Exchange.{Exchange, Marker, OfPlan, at_marker, is_idle}
-use Rattle.xbar_moves.specs.Moves.{after_step, event_at_step, steps}
-use Rattle.xbar_moves.specs.Runs.{Steps}
-use Rattle.xbar_moves.specs.declared.event.Event.{Event}
-use Rattle.xbar_core.proofs.GrownRecords.{move_begins}
-use Rattle.xbar_core.proofs.Loops.{AreLeft, all_left, some_made}
-use Rattle.xbar_moves.proofs.Markers.{none_within}
-use Rattle.xbar_moves.proofs.StepCases.{step_count}
-use Rattle.xbar_moves.proofs.Stepping.{step_idle}
-use Rattle.xbar_walk.specs.Walks.{Walk, added_by, walk_of_step, is_idle_in, is_past_turn_in, next_of, observation_of, walk_of_steps}
-use Rattle.xbar_walk.specs.Items.{Item, step_item}
-use Rattle.xbar_step_text.specs.Lines.{one_more}
-use Rattle.xbar_step_text.specs.Observed.{found_by}
-use Rattle.xbar_walk.specs.Observers.{AgreesWith, ChangesAs}
-use Rattle.xbar_walk.specs.Stories.{AddsStep, IsStory}
-use Rattle.xbar_walk.specs.declared.story.Story.{Story}
-use Rattle.xbar_step_text.specs.declared.observation.Observation.{Observation}
 
 -- the office after marker k's next step
 abbrev pub stepped : ℕ → OfPlan → OfPlan
@@ -34,7 +20,8 @@ after_made k w = record {
   detail = w.detail;
   office = stepped k w.office;
   number = one_more w.number;
-  items = w.items ++ step_item w.detail (one_more w.number) k (observation_of w.office.plan k w.office.exchange) (added_by w.office.plan k w.office.exchange) ∷ [];
+  items =
+      w.items ++ step_item w.detail (one_more w.number) k (observation_of w.office.plan k w.office.exchange) (added_by w.office.plan k w.office.exchange) ∷ [];
 }
 
 -- if there is no marker with a number, none makes a step
@@ -86,7 +73,8 @@ idle_tells_nothing k (suc count) w idle = ap (walk_of_steps k count) (idle_tells
 pub walk_then : (k count more : ℕ) (w : Walk) → walk_of_steps k (count + more) w ≡ walk_of_steps k more (walk_of_steps k count w)
 unfolding walk_of_steps
 walk_then k zero more w = let none : 0 + more ≡ more = omega arith in ap (λ (n : ℕ). walk_of_steps k n w) none
-walk_then k (suc count) more w = let one : suc count + more ≡ suc (count + more) = omega arith in ap (λ (n : ℕ). walk_of_steps k n w) one ∙ walk_then k count more (walk_of_step k w)
+walk_then k (suc count) more w = let one : suc count + more ≡ suc (count + more) = omega arith in
+    ap (λ (n : ℕ). walk_of_steps k n w) one ∙ walk_then k count more (walk_of_step k w)
 
 -- some of a marker's steps were made
 pub record AreTold (first : OfPlan) (story : Story) (now : OfPlan) (told : Story) (k count made : ℕ) : Type 0 where
@@ -100,7 +88,8 @@ none_told first story k count =
     record { office = subst (AreLeft first first k count) all (all_left first k count); seen = λ w agrees. agrees }
 
 module _ (first now : OfPlan) (story told : Story) (k count made : ℕ) (so_far : AreTold first story now told k count made) where
-  pub one_told : (next : OfPlan) (more : Story) → made < count → next ≡ stepped k now → ChangesAs IsStory (walk_of_step k) now told next more → AreTold first story next more k count (made + 1)
+  pub one_told : (next : OfPlan) (more : Story) → made < count → next ≡ stepped k now → ChangesAs IsStory (walk_of_step k) now told next more
+      → AreTold first story next more k count (made + 1)
   unfolding steps walk_of_steps
   one_told next more below is changes =
       let less : count - made - 1 ≡ count - (made + 1) = omega arith in
@@ -110,18 +99,21 @@ module _ (first now : OfPlan) (story told : Story) (k count made : ℕ) (so_far 
       }
 
   -- and those that are left change nothing
-  pub all_seen : made ≤ count → ((w : Walk) → AgreesWith IsStory now told w → walk_of_steps k (count - made) w ≡ w) → ChangesAs IsStory (walk_of_steps k count) first story now told
+  pub all_seen : made ≤ count → ((w : Walk) → AgreesWith IsStory now told w → walk_of_steps k (count - made) w ≡ w)
+      → ChangesAs IsStory (walk_of_steps k count) first story now told
   all_seen within rests w agrees =
       let at = so_far.seen w agrees in
       let parts : made + (count - made) ≡ count = omega (arith, within) in
-      subst (AgreesWith IsStory now told) (sym (rests (walk_of_steps k made w) at) ∙ sym (walk_then k made (count - made) w) ∙ ap (λ (n : ℕ). walk_of_steps k n w) parts) at
+      subst (AgreesWith IsStory now told) (sym (rests (walk_of_steps k made w) at) ∙ sym (walk_then k made (count - made) w)
+      ∙ ap (λ (n : ℕ). walk_of_steps k n w) parts) at
 
   pub none_seen : count ≤ made → made ≤ count → ChangesAs IsStory (walk_of_steps k count) first story now told
   unfolding walk_of_steps
   none_seen past within = let none : count - made ≡ 0 = omega (arith, past) in all_seen within (λ w agrees. ap (λ (n : ℕ). walk_of_steps k n w) none)
 
   pub idle_seen : made ≤ count → is_idle_in now.exchange k ≡ true → ChangesAs IsStory (walk_of_steps k count) first story now told
-  idle_seen within idle = all_seen within (λ w agrees. idle_tells_nothing k (count - made) w (ap (λ (o : OfPlan). is_idle_in o.exchange k) agrees.office_is ∙ idle))
+  idle_seen within idle =
+      all_seen within (λ w agrees. idle_tells_nothing k (count - made) w (ap (λ (o : OfPlan). is_idle_in o.exchange k) agrees.office_is ∙ idle))
 
 -- the marker of a number that there is
 pub marker_at : (e : Exchange) (k : ℕ) → k < length e.markers → (m : Marker) × (slice_get e.markers k ≡ Some m)
@@ -156,16 +148,20 @@ records_within o next k is =
     omega (arith, size)
 
 -- all that is observed of the step
-pub told_is : (o next : OfPlan) (k found : ℕ) (made after : Step) (came : Event) → next_of o.exchange k ≡ made → found ≡ found_by o.exchange.words made → came ≡ event_at_step o.plan k o.exchange
-    → next ≡ stepped k o → next_of next.exchange k ≡ after → ◌≡◌ {A = Observation} (record { step = made; found = found; event = came; next = after }) (observation_of o.plan k o.exchange)
+pub told_is : (o next : OfPlan) (k found : ℕ) (made after : Step) (came : Event) → next_of o.exchange k ≡ made → found ≡ found_by o.exchange.words made
+    → came ≡ event_at_step o.plan k o.exchange
+    → next ≡ stepped k o → next_of next.exchange k ≡ after
+    → ◌≡◌ {A = Observation} (record { step = made; found = found; event = came; next = after }) (observation_of o.plan k o.exchange)
 told_is o next k found made after came step_is found_is came_is is after_is =
     let same_found = found_is ∙ ap (found_by o.exchange.words) (sym step_is) in
     let same_after = sym after_is ∙ ap (λ (x : OfPlan). next_of x.exchange k) is in
     λ i. record { step = sym step_is i; found = same_found i; event = came_is i; next = same_after i }
 
 -- an office and a story after a step that was made and added agree with the walk after it
-pub made_tells : (k : ℕ) (office next : OfPlan) (story later : Story) (before : ℕ) (observed : Observation) → is_idle_in office.exchange k ≡ false → next ≡ stepped k office → observed ≡ observation_of office.plan k office.exchange
-    → before ≡ length office.exchange.records → AddsStep (λ detail number. step_item detail number k observed (drop before next.exchange.records)) story later → ChangesAs IsStory (walk_of_step k) office story next later
+pub made_tells : (k : ℕ) (office next : OfPlan) (story later : Story) (before : ℕ) (observed : Observation) → is_idle_in office.exchange k ≡ false
+    → next ≡ stepped k office → observed ≡ observation_of office.plan k office.exchange
+    → before ≡ length office.exchange.records → AddsStep (λ detail number. step_item detail number k observed (drop before next.exchange.records)) story later
+    → ChangesAs IsStory (walk_of_step k) office story next later
 made_tells k office next story later before observed goes next_is told_is before_is adds w agrees =
     let d = w.detail in
     let n = one_more w.number in

@@ -5,7 +5,7 @@ use Rattle.xbar_jobs.specs.declared.step.Step.{Step}
 use Rattle.xbar_jobs.specs.declared.step.Step.TheVariants as step
 use Rattle.xbar_moves.specs.AtWork.{is_turned, next_step_at}
 use Rattle.xbar_moves.specs.Exchange.{Exchange, OfPlan, at_marker, is_idle}
-use Rattle.xbar_moves.specs.Moves.{begun_anew, event_at_step, frees_left, given_at, after_step}
+use Rattle.xbar_moves.specs.Moves.{restarted_at, event_at_step, frees_left, given_at, after_step}
 use Rattle.xbar_moves.specs.Settling.{most_steps_alone}
 use Rattle.xbar_moves.specs.declared.given.Given.{Given}
 use Rattle.xbar_moves.specs.declared.given.Given.TheVariants as given
@@ -77,15 +77,15 @@ abbrev pub walk_of_end_past_turn : ℕ → Walk → Walk
 walk_of_end_past_turn k w = if is_past_turn_in w.office.exchange k then walk_of_end k w else w
 
 -- marker k is to begin its job anew: this is no step
-abbrev pub to_begin_anew : ℕ → Walk → Walk
-to_begin_anew k w = record w {
-  office = record w.office { exchange = begun_anew w.office.plan k w.office.exchange };
+abbrev pub restarted_walk : ℕ → Walk → Walk
+restarted_walk k w = record w {
+  office = record w.office { exchange = restarted_at w.office.plan k w.office.exchange };
 }
 
 -- giving back, by marker k's answer: it gives back all that it holds, or is idle or past its turn
 abbrev pub walk_of_rollback : Given → ℕ → Walk → Walk
 walk_of_rollback given.Given k w = walk_of_steps k (frees_left w.office.exchange k)
-    (to_begin_anew k w)
+    (restarted_walk k w)
 walk_of_rollback given.PastTurn k w = w
 walk_of_rollback given.Idle k w = w
 

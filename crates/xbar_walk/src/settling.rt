@@ -50,7 +50,7 @@ fn end_past_turn<O: Observer>(
 }
 
 /// Has a marker that was restarted withdraw its request, and free all that it holds.
-fn give_up<O: Observer>(
+fn free_all<O: Observer>(
     office: &mut Exchange<'_>,
     marker: u32,
     observer: &mut O,
@@ -91,7 +91,7 @@ fn give_back<O: Observer>(
         return Ok(());
     };
     office.restart(marker);
-    give_up(office, marker, observer)?;
+    free_all(office, marker, observer)?;
     Ok(())
 }
 

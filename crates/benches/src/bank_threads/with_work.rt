@@ -3,10 +3,10 @@
 
 ghost use Rattle.std.specs.Prelude.{◌≡◌, ◌≤◌, ◌<◌, ◌+◌, ◌^◌, IfSome, slice_get};
 
-use attempts::{Scripts, Seen};
+use attempts::{OnWords, Scripts, Seen};
 use bank::{Decision, Effect, Job, Opening, Reply};
-use bank_desks::BankScripts;
-use desk_attempts::{Attempts, OnWords};
+use bank_desks::{BankRoom, BankScripts};
+use desk_attempts::{Attempts, InRoom};
 use std::alloc::{AllocError, Global};
 use std::ops::Range;
 use turns::{Clock, LockSharing, Operation, Wanted};
@@ -21,7 +21,7 @@ pub struct BankWithWork {
 /// The scripts of the bank's jobs, with work before each decision.
 pub struct ScriptsWithWork;
 
-pub type JobsWithWork = Attempts<ScriptsWithWork, 2, 2>;
+pub type JobsWithWork = Attempts<ScriptsWithWork, BankRoom, 2, 2>;
 
 /// Does so many rounds of work, each of which needs what the one before it made.
 pub fn work(rounds: u32, seed: u64) -> u64 {
@@ -93,6 +93,32 @@ impl Scripts<2, 2> for ScriptsWithWork {
 }
 
 impl OnWords<2, 2> for ScriptsWithWork {
+    fn size(bank: &BankWithWork) -> usize {
+        BankScripts::size(&bank.opening)
+    }
+
+    fn lock_word(bank: &BankWithWork, shard: u32) -> usize {
+        BankScripts::lock_word(&bank.opening, shard)
+    }
+
+    fn turn_word(bank: &BankWithWork) -> usize {
+        BankScripts::turn_word(&bank.opening)
+    }
+
+    fn clock(bank: &BankWithWork) -> Clock {
+        BankScripts::clock(&bank.opening)
+    }
+
+    fn effect_word(bank: &BankWithWork, effect: Effect) -> usize {
+        BankScripts::effect_word(&bank.opening, effect)
+    }
+
+    fn effect_operation(bank: &BankWithWork, effect: Effect) -> Operation {
+        BankScripts::effect_operation(&bank.opening, effect)
+    }
+}
+
+impl InRoom<BankRoom, 2, 2> for ScriptsWithWork {
     ghost use Rattle.bank.proofs.BankSystem.{bank_bounded, bank_system};
     ghost use Rattle.bank_desks.specs.Shards.{shards_have_places, shards_of};
     ghost use Rattle.desk_attempts.specs.Groups.{places_of};
@@ -107,18 +133,6 @@ impl OnWords<2, 2> for ScriptsWithWork {
         *bank
     }
 
-    fn effect_word(bank: &BankWithWork, effect: Effect) -> usize {
-        BankScripts::effect_word(&bank.opening, effect)
-    }
-
-    fn effect_operation(bank: &BankWithWork, effect: Effect) -> Operation {
-        BankScripts::effect_operation(&bank.opening, effect)
-    }
-
-    fn size(bank: &BankWithWork) -> usize {
-        BankScripts::size(&bank.opening)
-    }
-
     fn place(bank: &BankWithWork, word: usize) -> usize {
         BankScripts::place(&bank.opening, word)
     }
@@ -129,18 +143,6 @@ impl OnWords<2, 2> for ScriptsWithWork {
 
     fn initial(alloc: Global, bank: &BankWithWork) -> Result<Vec<u64>, AllocError> {
         BankScripts::initial(alloc, &bank.opening)
-    }
-
-    fn turn_word(bank: &BankWithWork) -> usize {
-        BankScripts::turn_word(&bank.opening)
-    }
-
-    fn clock(bank: &BankWithWork) -> Clock {
-        BankScripts::clock(&bank.opening)
-    }
-
-    fn lock_word(bank: &BankWithWork, shard: u32) -> usize {
-        BankScripts::lock_word(&bank.opening, shard)
     }
 
     fn words_under(bank: &BankWithWork, shard: u32) -> Range<usize> {

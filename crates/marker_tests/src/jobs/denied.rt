@@ -73,8 +73,8 @@ fn check_denial(rt: &impl Abort, alloc: Global, plan: &Plan, denial: &Denial) {
     let mut program = program_of(rt, plan, "D 3041");
     make_steps(&mut program, plan, marker, &mut words, made as usize);
     words[WORD] = denial.found;
-    check_eq!(rt; program.next().answer(marker, denial.found), denial.answer, name);
-    make_steps(&mut program, plan, marker, &mut words, 1);
+    let answer = make_steps(&mut program, plan, marker, &mut words, 1);
+    check_eq!(rt; answer, Some(denial.answer), name);
     check_next(rt, name, &program, Step::Withdraw(GROUP), made + 1);
     make_steps(&mut program, plan, marker, &mut words, 1);
     check_next(rt, name, &program, Step::Free(LINES), made + 2);

@@ -7,7 +7,7 @@ ghost use Rattle.xbar_jobs.specs.Standing.{IsValid};
 use crate::fixtures::job;
 use std::process::Abort;
 use test_tools::check_eq;
-use xbar_jobs::{Program, Step};
+use xbar_jobs::{Answer, Program, Step};
 use xbar_plan::Plan;
 
 /// The job of this text, that has made no step.
@@ -18,21 +18,28 @@ pub fn program_of(rt: &impl Abort, plan: &Plan, text: &str) -> Program
     Program::new(job(rt, text))
 }
 
-/// Makes `count` steps of the marker on the words, and passes each answer to the program.
-pub fn make_steps(program: &mut Program, plan: &Plan, marker: u32, words: &mut [u64], count: usize)
+/// Makes `count` steps of the marker on the words, as far as there are any, and returns the last
+/// answer.
+pub fn make_steps(
+    program: &mut Program,
+    plan: &Plan,
+    marker: u32,
+    words: &mut [u64],
+    count: usize,
+) -> Option<Answer>
     requires marker { marker < 48 }
     requires plan { IsValid plan.now program.old.attempt }
     requires words { length words.old ≡ word_count }
     ensures plan { IsValid plan.now program.new.attempt }
     ensures words { length words.new ≡ word_count }
 {
+    let mut answer = None;
     for _made in 0..count {
-        let step = program.next();
-        let answer = step.make(marker, words);
-        if step != Step::Finished {
-            program.take(plan, answer);
+        if !program.is_done() {
+            answer = Some(program.step(plan, marker, words));
         }
     }
+    answer
 }
 
 /// Checks the program's next step, and how many steps its attempt has made.

@@ -2,19 +2,15 @@ ghost use Rattle.std.specs.Prelude.{◌≡◌};
 
 use crate::quoted::Quoted;
 use std::fmt;
-use xbar_traffic::{RowFault, TrafficFault};
+use xbar_traffic::{Expected, RowFault, TrafficFault};
 
 /// Why a row is wrong.
 #[derive(Clone, Copy, Debug)]
 pub enum TrafficReason {
-    /// In fixed words.
-    Said(&'static str),
+    /// This is expected, or refused in these words.
+    Expected(Expected),
     /// The fault wasn't found again in the row.
     Unknown,
-    /// The row has this number of fields instead of 5.
-    FieldCount(usize),
-    /// The field isn't a number from 0 to this one.
-    NoNumber(u32),
     /// An earlier row has the number of the job or call too. Row and line are counted from 1.
     NumberTwice { row: u64, line: u64 },
 }
@@ -22,15 +18,17 @@ pub enum TrafficReason {
 impl fmt::Display for TrafficReason {
     fn fmt<W: fmt::Write>(&self, f: &mut fmt::Formatter<W>) -> fmt::Result {
         match self {
-            TrafficReason::Said(words) => f.write_str(words),
-            TrafficReason::Unknown => f.write_str("this fault was not found again"),
-            TrafficReason::FieldCount(count) => write!(f, "expected 5 fields, found {count}"),
-            TrafficReason::NoNumber(most) => {
+            TrafficReason::Expected(Expected::Words(words)) => f.write_str(words),
+            TrafficReason::Expected(Expected::NumberTo(most)) => {
                 write!(
                     f,
                     "expected a number from 0 to {most} without leading zeros"
                 )
             }
+            TrafficReason::Expected(Expected::FiveFields(count)) => {
+                write!(f, "expected 5 fields, found {count}")
+            }
+            TrafficReason::Unknown => f.write_str("this fault was not found again"),
             TrafficReason::NumberTwice { row, line } => {
                 write!(f, "duplicate number, first used on line {line} (row {row})")
             }

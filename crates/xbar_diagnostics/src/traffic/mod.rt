@@ -1,7 +1,6 @@
 //! Diagnostics of traffic.
 
 mod diagnostic;
-mod field;
 mod records;
 
 ghost use Rattle.std.specs.Prelude.{◌≡◌, IfOk, IfSome};
@@ -10,7 +9,7 @@ use csv::ByteRecord;
 pub use diagnostic::{TrafficDiagnostic, TrafficReason};
 use records::{line_of, records_up_to};
 use std::alloc::{AllocError, Global};
-use xbar_traffic::{MarkerFault, Mode, RowFault, TrafficFault};
+use xbar_traffic::{Expected, MarkerFault, Mode, Row, RowFault, TrafficFault};
 
 /// Finds what is wrong with traffic of this mode that was refused for this fault. Returns None if
 /// there is no row with that number, or if the row doesn't have the fault. Whether a marker
@@ -55,22 +54,18 @@ fn wrong_with_record(
     record: &ByteRecord,
     fault: RowFault,
 ) -> Option<(usize, TrafficReason)> {
-    let (index, words) = match fault {
-        RowFault::Unreadable => return wrong_count(record.len()),
-        RowFault::UnknownKind => field::unknown_kind(mode, record)?,
-        RowFault::OtherMode => field::other_mode(mode, record)?,
-        RowFault::Malformed => return field::malformed_field(record),
-        RowFault::NumberTwice => return number_twice(bytes, before, record),
-        RowFault::Marker(why) => refused_by_marker(why),
-    };
-    Some((index, TrafficReason::Said(words)))
-}
-
-fn wrong_count(count: usize) -> Option<(usize, TrafficReason)> {
-    if count == 5 {
-        None
-    } else {
-        Some((count, TrafficReason::FieldCount(count)))
+    match fault {
+        RowFault::NumberTwice => number_twice(bytes, before, record),
+        RowFault::Marker(why) => {
+            let (field, words) = refused_by_marker(why);
+            Some((field, TrafficReason::Expected(Expected::Words(words))))
+        }
+        _ => match Row::read(mode, record) {
+            Err(wrong) if wrong.fault == fault => {
+                Some((wrong.field, TrafficReason::Expected(wrong.expected)))
+            }
+            _ => None,
+        },
     }
 }
 

@@ -1,17 +1,21 @@
 //! Checks that tables contain nothing that a plan's text could not express.
 
-ghost use Rattle.std.specs.Prelude.{◌≡◌, IfOk, IsTrue, nat_lt};
+ghost use Rattle.std.specs.Prelude.{◌≡◌, IsTrue, nat_lt, not, position};
 ghost use Rattle.std.specs.List.{list_all};
 ghost use Rattle.xbar_equip.specs.Len.{is_line};
-ghost use Rattle.xbar_plan.specs.Lawful.{is_between as lies_between, is_name_character as is_letter_or_digit, is_name as is_group_name, has_its_places as has_own_places, is_well_formed_group as is_formed_group, are_in_range as are_tables_in_range, are_well_formed as are_tables_well_formed};
+ghost use Rattle.xbar_plan.specs.declared.fault.PlanFault.TheVariants as PlanFault;
+ghost use Rattle.xbar_plan.specs.Lawful.{is_between as lies_between, is_name_character as is_letter_or_digit, is_name as is_group_name, has_its_places as has_own_places, is_well_formed_group as is_formed_group, are_well_formed as are_tables_well_formed};
+ghost use Rattle.xbar_plan.specs.TableFault.{IsCheck};
 ghost use Rattle.xbar_plan.specs.TableSlices.{tables_of};
 
 use super::places::places_of;
 use crate::group::Group;
+use crate::list::PlanList;
 use crate::route::Route;
 use crate::station::Station;
+use crate::table_fault::TableFault;
 use crate::table_slices::TableSlices;
-use std::alloc::{AllocError, Global};
+use std::alloc::Global;
 
 /// Whether `n` is from `least` to `most`, both included.
 pub fn is_between(least: usize, most: usize, n: usize) -> bool
@@ -58,17 +62,18 @@ fn is_well_formed_group(group: &Group) -> bool
     is_name(group.name().as_bytes()) && has_its_places(group)
 }
 
-fn are_well_formed_groups(groups: &[Group]) -> bool
-    ensures { result ≡ list_all is_formed_group groups.now }
+/// The index of the first group that is not well formed.
+fn first_ill_formed(groups: &[Group]) -> Option<usize>
+    ensures { result ≡ position (λ group. not (is_formed_group group)) groups.now }
 {
-    groups.iter().all(is_well_formed_group)
+    groups.iter().position(|group| !is_well_formed_group(group))
 }
 
-/// Whether each code is below 1000.
-fn have_three_digits(routes: &[Route]) -> bool
-    ensures { result ≡ list_all (λ route. nat_lt route.code 1000) routes.now }
+/// The index of the first code that isn't below 1000.
+fn first_long_code(routes: &[Route]) -> Option<usize>
+    ensures { result ≡ position (λ route. not (nat_lt route.code 1000)) routes.now }
 {
-    routes.iter().all(|route| route.code() < 1000)
+    routes.iter().position(|route| route.code() >= 1000)
 }
 
 /// States that the directory numbers and the lines are in range. It does nothing else.
@@ -83,10 +88,12 @@ fn state_station_ranges(stations: &[Station])
     }
 }
 
-/// Whether all numbers are in range. Places, directory numbers, lines and links are by their
-/// types, so only the codes are checked.
-fn are_in_range(alloc: Global, tables: &TableSlices) -> Result<bool, AllocError>
-    ensures { IfOk result (λ holds. holds ≡ are_tables_in_range (tables_of tables.now)) }
+/// Checks that each group is well formed and all numbers are in range. Places, directory numbers,
+/// lines and links are by their types, so of the numbers only the codes are checked.
+#[tactic(auto, using(crate::proofs::Failing::none_fails, crate::proofs::Failing::one_fails))]
+pub fn check_forms(alloc: Global, tables: &TableSlices) -> Result<(), TableFault>
+    ensures { IsCheck (tables_of tables.now) (are_tables_well_formed (tables_of tables.now))
+        PlanFault.Malformed result }
 {
     let places = places_of(alloc, tables.groups)?;
     // Called only for its contract.
@@ -94,13 +101,13 @@ fn are_in_range(alloc: Global, tables: &TableSlices) -> Result<bool, AllocError>
     state_station_ranges(tables.stations);
     // Called only for its contract.
     xbar_equip::laws::links_are_in_range(tables.faults);
-    Ok(have_three_digits(tables.routes))
-}
-
-/// Whether each group is well formed and all numbers are in range.
-pub fn are_well_formed(alloc: Global, tables: &TableSlices) -> Result<bool, AllocError>
-    ensures { IfOk result (λ holds. holds ≡ are_tables_well_formed (tables_of tables.now)) }
-{
-    let in_range = are_in_range(alloc, tables)?;
-    Ok(are_well_formed_groups(tables.groups) && in_range)
+    if let Some(item) = first_ill_formed(tables.groups) {
+        let list = PlanList::Groups;
+        return Err(TableFault::Malformed { list, item });
+    }
+    if let Some(item) = first_long_code(tables.routes) {
+        let list = PlanList::Codes;
+        return Err(TableFault::Malformed { list, item });
+    }
+    Ok(())
 }

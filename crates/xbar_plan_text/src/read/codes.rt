@@ -1,13 +1,20 @@
 //! Reads the items of `codes`, and finds the groups that they name.
 
 ghost use Rattle.std.specs.Prelude.{◌≡◌, ◌∷◌, IfOk, map, position, string_bytes, bytes_eq};
-ghost use Rattle.xbar_plan_text.specs.Texts.{IsReadAs, read_all, name_of, code_entry_of_parts, code_entry_of, capped_number, capped_route};
+ghost use Rattle.xbar_plan.specs.declared.list.PlanList.TheVariants as PlanList;
+ghost use Rattle.xbar_plan_text.specs.Texts.{read_all, name_of, code_entry_of_parts, code_entry_of, capped_number, capped_route};
+ghost use Rattle.xbar_plan_text.specs.Refusal.{IsListRead, IsReadAs};
 
 use super::groups::read_name;
+use super::item_error::ItemError;
 use super::text::{read_code, split_parts};
+use crate::refusal::PlanRefusal;
 use std::alloc::{AllocError, Global};
 use std::marker::Model;
-use xbar_plan::{Group, PlanFault, Route};
+use xbar_plan::{Group, PlanList, Route};
+
+/// What is expected of a code with its groups.
+const EXPECTED_CODE: &str = "expected a code and names of groups";
 
 /// A code and the names of the groups that it leads to.
 #[derive(Debug, Drop)]
@@ -26,57 +33,63 @@ impl Model for CodeEntry {
 }
 
 /// Reads each part as a group's name.
-fn read_names(alloc: Global, parts: &[&[u8]]) -> Result<Vec<String>, PlanFault>
+fn read_names(alloc: Global, parts: &[&[u8]]) -> Result<Vec<String>, ItemError>
     ensures { IsReadAs (λ names. map string_bytes names.items)
         (read_all (λ part. name_of part.now) parts.now) result }
 {
     let mut names = Vec::with_capacity(alloc, parts.len())?;
     for part in parts {
-        let name = read_name(alloc, part)?;
+        // The code comes before the names.
+        let name = read_name(alloc, part, names.len().saturating_add(1))?;
         names.push(name)?;
     }
     Ok(names)
 }
 
 /// Reads a code and group names from their parts.
-fn read_coded(alloc: Global, code: &[u8], names: &[&[u8]]) -> Result<CodeEntry, PlanFault>
+fn read_coded(alloc: Global, code: &[u8], names: &[&[u8]]) -> Result<CodeEntry, ItemError>
     ensures { IsReadAs (λ entry. entry) (code_entry_of_parts
         (code.now ∷ map (λ part. part.now) names.now)) result }
 {
     let Some(code) = read_code(code) else {
-        return Err(PlanFault::Malformed);
+        return Err(ItemError::Part(0, "expected three digits"));
     };
     let names = read_names(alloc, names)?;
     Ok(CodeEntry { code, names })
 }
 
 /// Reads a code and group names from the parts of a text.
-fn read_entry_parts(alloc: Global, parts: &[&[u8]]) -> Result<CodeEntry, PlanFault>
+fn read_entry_parts(alloc: Global, parts: &[&[u8]]) -> Result<CodeEntry, ItemError>
     ensures { IsReadAs (λ entry. entry) (code_entry_of_parts
         (map (λ part. part.now) parts.now)) result }
 {
     match parts.split_first() {
         Some((code, names)) => read_coded(alloc, code, names),
-        None => Err(PlanFault::Malformed),
+        None => Err(ItemError::Whole(EXPECTED_CODE)),
     }
 }
 
 /// Reads an item of `codes`: a code and names, whether groups have these names or not.
-pub fn read_entry(alloc: Global, text: &[u8]) -> Result<CodeEntry, PlanFault>
+fn read_entry(alloc: Global, text: &[u8]) -> Result<CodeEntry, ItemError>
     ensures { IsReadAs (λ entry. entry) (code_entry_of text.now) result }
 {
     let parts = split_parts(alloc, text)?;
     read_entry_parts(alloc, &parts)
 }
 
-pub fn read_entries(alloc: Global, texts: &[&[u8]]) -> Result<Vec<CodeEntry>, PlanFault>
-    ensures { IsReadAs (λ entries. entries.items)
-        (read_all (λ text. code_entry_of text.now) texts.now) result }
+pub fn read_entries(alloc: Global, texts: &[&[u8]]) -> Result<Vec<CodeEntry>, PlanRefusal>
+    ensures { IsListRead PlanList.Codes code_entry_of (λ entries. entries.items)
+        (map (λ text. text.now) texts.now) result }
 {
     let mut entries = Vec::with_capacity(alloc, texts.len())?;
-    for text in texts {
-        let entry = read_entry(alloc, text)?;
-        entries.push(entry)?;
+    for (item, text) in texts.iter().enumerate() {
+        match read_entry(alloc, text) {
+            Ok(entry) => entries.push(entry)?,
+            Err(error) => {
+                let list = PlanList::Codes;
+                return Err(error.refusal(alloc, list, item, text, EXPECTED_CODE));
+            }
+        }
     }
     Ok(entries)
 }

@@ -1,23 +1,40 @@
 //! Reads the items of `numbers`.
 
 ghost use Rattle.std.specs.Prelude.{◌≡◌, ◌∷◌, map};
-ghost use Rattle.xbar_plan_text.specs.Texts.{IsReadAs, read_all, line_of, is_line_count as is_count_of_lines, station_of_parts, station_of};
+ghost use Rattle.xbar_plan.specs.declared.list.PlanList.TheVariants as PlanList;
+ghost use Rattle.xbar_plan_text.specs.Texts.{read_all, line_of, is_line_count as is_count_of_lines, station_of_parts, station_of};
+ghost use Rattle.xbar_plan_text.specs.Refusal.{IsListRead, IsReadAs};
 
+use super::item_error::ItemError;
 use super::text::{read_line, read_number, split_parts};
 use super::version::Version;
+use crate::refusal::PlanRefusal;
 use std::alloc::Global;
 use xbar_equip::Len;
-use xbar_plan::{PlanFault, Station};
+use xbar_plan::{PlanList, Station};
+
+/// What is expected of a line.
+const EXPECTED_LINE: &str =
+    "expected a line of four digits, the third at most 5 and the fourth at most 4";
+
+/// What is expected of a directory number with its lines.
+fn expected_station(version: Version) -> &'static str {
+    match version {
+        Version::One => "expected a number and one line in version 1",
+        Version::Two => "expected a number and its lines",
+    }
+}
 
 /// Parses each part as a line.
-fn read_lines(alloc: Global, parts: &[&[u8]]) -> Result<Vec<Len>, PlanFault>
+fn read_lines(alloc: Global, parts: &[&[u8]]) -> Result<Vec<Len>, ItemError>
     ensures { IsReadAs (λ lines. lines.items)
         (read_all (λ part. line_of part.now) parts.now) result }
 {
     let mut lines = Vec::with_capacity(alloc, parts.len())?;
     for part in parts {
         let Some(line) = read_line(part) else {
-            return Err(PlanFault::Malformed);
+            // The number comes before the lines.
+            return Err(ItemError::Part(lines.len().saturating_add(1), EXPECTED_LINE));
         };
         lines.push(line)?;
     }
@@ -40,17 +57,18 @@ fn read_numbered(
     version: Version,
     number: &[u8],
     lines: &[&[u8]],
-) -> Result<Station, PlanFault>
+) -> Result<Station, ItemError>
     ensures { IsReadAs (λ station. station) (station_of_parts version
         (number.now ∷ map (λ part. part.now) lines.now)) result }
 {
-    if !is_line_count(version, lines.len()) {
-        return Err(PlanFault::Malformed);
-    }
+    let count = lines.len();
     let Some(number) = read_number(number) else {
-        return Err(PlanFault::Malformed);
+        return Err(ItemError::Part(0, "expected four digits"));
     };
     let lines = read_lines(alloc, lines)?;
+    if !is_line_count(version, count) {
+        return Err(ItemError::Whole(expected_station(version)));
+    }
     Ok(Station::new(number, lines))
 }
 
@@ -59,18 +77,18 @@ fn read_station_parts(
     alloc: Global,
     version: Version,
     parts: &[&[u8]],
-) -> Result<Station, PlanFault>
+) -> Result<Station, ItemError>
     ensures { IsReadAs (λ station. station) (station_of_parts version
         (map (λ part. part.now) parts.now)) result }
 {
     match parts {
         [number, lines @ ..] => read_numbered(alloc, version, number, lines),
-        [] => Err(PlanFault::Malformed),
+        [] => Err(ItemError::Whole(expected_station(version))),
     }
 }
 
 /// Reads an item of `numbers`: a directory number and its lines.
-pub fn read_station(alloc: Global, version: Version, text: &[u8]) -> Result<Station, PlanFault>
+fn read_station(alloc: Global, version: Version, text: &[u8]) -> Result<Station, ItemError>
     ensures { IsReadAs (λ station. station) (station_of version text.now) result }
 {
     let parts = split_parts(alloc, text)?;
@@ -81,14 +99,19 @@ pub fn read_stations(
     alloc: Global,
     version: Version,
     texts: &[&[u8]],
-) -> Result<Vec<Station>, PlanFault>
-    ensures { IsReadAs (λ stations. stations.items)
-        (read_all (λ text. station_of version text.now) texts.now) result }
+) -> Result<Vec<Station>, PlanRefusal>
+    ensures { IsListRead PlanList.Numbers (station_of version) (λ stations. stations.items)
+        (map (λ text. text.now) texts.now) result }
 {
     let mut stations = Vec::with_capacity(alloc, texts.len())?;
-    for text in texts {
-        let station = read_station(alloc, version, text)?;
-        stations.push(station)?;
+    for (item, text) in texts.iter().enumerate() {
+        match read_station(alloc, version, text) {
+            Ok(station) => stations.push(station)?,
+            Err(error) => {
+                let list = PlanList::Numbers;
+                return Err(error.refusal(alloc, list, item, text, expected_station(version)));
+            }
+        }
     }
     Ok(stations)
 }

@@ -1,6 +1,5 @@
 use Rattle.std.proofs.Common.{ap, sym, ◌∙◌}
-use Rattle.turns.specs.Attempt.{closing_act}
-use Rattle.turns.specs.Runs.{is_finished}
+use Rattle.turns.specs.{Attempt.closing_act, Runs.is_finished}
 use Rattle.attempts.proofs.next_step.is_closed.Goals as goal
 
 pub returns-in-Some : goal.returns-in-Some

@@ -1,5 +1,4 @@
-use Rattle.attempts.proofs.EffectsLeft.{next_left, no_next_left}
-use Rattle.attempts.proofs.Inside.{more_fits, undecided}
+use Rattle.attempts.proofs.{EffectsLeft.{next_left, no_next_left}, Inside.{more_fits, undecided}}
 use Rattle.attempts.proofs.next_step.next_effect.Goals as goal
 
 pub returns-in-Some-clause-some : goal.returns-in-Some-clause-some

@@ -1,10 +1,10 @@
 use Rattle.std.proofs.Common.{ap, ◌∙◌}
-use Rattle.attempts.specs.Counting.{counted_by}
-use Rattle.attempts.specs.Validity.{AttemptView, attempt_of}
+use Rattle.attempts.specs.{Counting.counted_by, Validity.{AttemptView, attempt_of}}
 use Rattle.attempts.proofs.past_turn.apply_past_turn.Goals as goal
 
 pub returns-clause-operates : goal.returns-clause-operates
-returns-clause-operates g c = ap (λ (p : AttemptView _ _ _ _). attempt_of g.S.Scripts.reply_of g.S.Scripts.effects_of p) c.count_steps.ensures ∙ c.operate.ensures.operates
+returns-clause-operates g c =
+    ap (λ (p : AttemptView _ _ _ _). attempt_of g.S.Scripts.reply_of g.S.Scripts.effects_of p) c.count_steps.ensures ∙ c.operate.ensures.operates
 
 pub returns-clause-phase : goal.returns-clause-phase
 returns-clause-phase g c = ap (λ (p : AttemptView _ _ _ _). p.phase) c.count_steps.ensures ∙ c.operate.ensures.phase

@@ -1,8 +1,5 @@
 use Rattle.std.proofs.Common.{ℕ, List, ap, subst, sym, ◌∙◌}
-use Rattle.turns.specs.Script.{value_read}
-use Rattle.turns.specs.declared.reading.Reading.{Reading}
-use Rattle.attempts.specs.Points.{HaveOneValue}
-use Rattle.attempts.proofs.ReadOnce.{read_at_place}
+use Rattle.{turns.specs.{Script.value_read, declared.reading.Reading.Reading}, attempts.{specs.Points.HaveOneValue, proofs.ReadOnce.read_at_place}}
 use Rattle.attempts.proofs.seen.value_of.Goals as goal
 
 pub returns-then-reading-word : goal.returns-then-reading-word

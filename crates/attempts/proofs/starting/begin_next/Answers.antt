@@ -1,17 +1,20 @@
 use Rattle.std.proofs.Common.{ap}
-use Rattle.attempts.specs.Validity.{AttemptView}
-use Rattle.attempts.proofs.Beginning.{begun}
-use Rattle.attempts.proofs.Onward.{stands_begun}
+use Rattle.attempts.{specs.Validity.AttemptView, proofs.{Beginning.begun, Onward.stands_begun}}
 use Rattle.attempts.proofs.starting.begin_next.Goals as goal
 
-pub renew-requires : goal.renew-requires
-renew-requires g c = search
+pub begin_job-requires : goal.begin_job-requires
+begin_job-requires g c = search
 
 pub returns-clause-begins : goal.returns-clause-begins
-returns-clause-begins g c = λ setting. begun g.S.Lock.PartialEq.eq g.S.Scripts.reply_of g.S.Scripts.effects_of (g.S.Scripts.system setting) c.args.job c.first-lock.result c.start-point.result c.renew.new.self (c.first-lock.ensures setting) c.renew.ensures
+returns-clause-begins g c =
+    λ setting. begun g.S.Lock.PartialEq.eq g.S.Scripts.reply_of g.S.Scripts.effects_of (g.S.Scripts.system setting) c.args.job c.first-lock.result
+    c.start-point.result c.begin_job.new.self (c.first-lock.ensures setting) c.begin_job.ensures
 
 pub returns-clause-count : goal.returns-clause-count
-returns-clause-count g c = ap (λ (p : AttemptView _ _ _ _). p.count) c.renew.ensures
+returns-clause-count g c = ap (λ (p : AttemptView _ _ _ _). p.count) c.begin_job.ensures
 
 pub returns-clause-valid : goal.returns-clause-valid
-returns-clause-valid g c = λ setting right is_job. stands_begun g.S.Lock.PartialEq.eq g.S.Scripts.reply_of g.S.Scripts.effects_of (g.S.Scripts.system setting) (g.S.Scripts.ResumePointIsValid setting) _ _ right c.args.job c.first-lock.result c.start-point.result _ is_job (c.first-lock.ensures setting) (c.start-point.ensures setting) c.renew.ensures
+returns-clause-valid g c =
+    λ setting right is_job. stands_begun g.S.Lock.PartialEq.eq g.S.Scripts.reply_of g.S.Scripts.effects_of (g.S.Scripts.system setting)
+    (g.S.Scripts.ResumePointIsValid setting) _ _ right c.args.job c.first-lock.result c.start-point.result _ is_job (c.first-lock.ensures setting)
+    (c.start-point.ensures setting) c.begin_job.ensures

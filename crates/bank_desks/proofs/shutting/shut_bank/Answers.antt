@@ -1,8 +1,5 @@
 use Rattle.std.proofs.Common.{map}
-use Rattle.bank.specs.System.{bank}
-use Rattle.bank_desks.specs.Ended.{HasEnded}
-use Rattle.bank_desks.proofs.Ends.{has_ended, if_ok}
-use Rattle.workers.specs.Workers.{HaveShut, records}
+use Rattle.{bank.specs.System.bank, bank_desks.{specs.Ended.HasEnded, proofs.Ends.{has_ended, if_ok}}, workers.specs.Workers.{HaveShut, records}}
 use Rattle.bank_desks.proofs.shutting.shut_bank.Goals as goal
 
 pub returns-clause-ended : goal.returns-clause-ended

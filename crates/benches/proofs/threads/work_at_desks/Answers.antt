@@ -1,9 +1,6 @@
-use Rattle.std.proofs.Common.{refl, subst}
-use Rattle.std.proofs.lemmas.Option.{slice_get_read}
-use Rattle.std.specs.Prelude.{IfSome, Option}
+use Rattle.std.proofs.Common.{refl, subst, IfSome, Option}
+use Rattle.{std.proofs.lemmas.Option.slice_get_read, xbar_fabric.{specs.Views.{DeskView, IsDeskOf}, proofs.Sent.desk_send}}
 use denote.Param.Send.{sendable}
-use Rattle.xbar_fabric.specs.Views.{DeskView, IsDeskOf}
-use Rattle.xbar_fabric.proofs.Sent.{desk_send}
 use Rattle.benches.proofs.threads.work_at_desks.Goals as goal
 
 pub map_vec-requires-send-J : goal.map_vec-requires-send-J

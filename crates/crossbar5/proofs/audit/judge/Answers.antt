@@ -1,11 +1,6 @@
-use Rattle.std.proofs.Common.{List, sym, subst}
-use Rattle.std.specs.Prelude.{IfOk}
-use Rattle.xbar_office.specs.Audit.{IsFaultOf}
-use Rattle.xbar_office.specs.Legal.{HaveTurns}
-use Rattle.xbar_office.specs.declared.audit_fault.AuditFault.{AuditFault}
-use Rattle.xbar_office.specs.declared.reply.Record.{Record}
-use Rattle.xbar_report.proofs.ReadBack.{no_wrong_turn}
-use Rattle.crossbar5.specs.Audit.{IsFoundOf}
+use Rattle.std.proofs.Common.{List, sym, subst, IfOk}
+use Rattle.xbar_office.specs.{Audit.IsFaultOf, Legal.HaveTurns, declared.{audit_fault.AuditFault.AuditFault, reply.Record.Record}}
+use Rattle.{xbar_report.proofs.ReadBack.no_wrong_turn, crossbar5.specs.Audit.IsFoundOf}
 use Rattle.crossbar5.proofs.audit.judge.Goals as goal
 
 pub unreachable-requires : goal.unreachable-requires

@@ -1,8 +1,5 @@
 use Rattle.std.proofs.Common.{◌<◌, ◌∙◌, List, length, sym, ap, arith}
-use Rattle.xbar_equip.specs.declared.path.Path.{Path}
-use Rattle.xbar_office.specs.State.{State}
-use Rattle.xbar_office.specs.Whole.{whole}
-use Rattle.xbar_office.proofs.AuditedRecords.{after-more}
+use Rattle.{xbar_equip.specs.declared.path.Path.Path, xbar_office.{specs.{State.State, Whole.whole}, proofs.AuditedRecords.after-more}}
 use Rattle.crossbar5.proofs.audit.office_after.Goals as goal
 
 pub loop-record-preserved : goal.loop-record-preserved

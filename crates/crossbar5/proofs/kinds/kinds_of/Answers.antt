@@ -1,6 +1,5 @@
 use Rattle.std.proofs.Common.{◌∙◌, ap, map, sym}
-use Rattle.crossbar5.specs.Kinds.{letter_of}
-use Rattle.crossbar5.proofs.KindLetters.{all_read, unknown_letter}
+use Rattle.crossbar5.{specs.Kinds.letter_of, proofs.KindLetters.{all_read, unknown_letter}}
 use Rattle.crossbar5.proofs.kinds.kinds_of.Goals as goal
 
 pub returns-in_err-kind-clause-refused : goal.returns-in_err-kind-clause-refused

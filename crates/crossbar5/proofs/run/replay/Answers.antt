@@ -1,5 +1,4 @@
-use Rattle.std.proofs.lemmas.Result.{IfOk-weaker}
-use Rattle.crossbar5.proofs.Outcomes.{both, left_history, left_replay, refused_history, refused_replay}
+use Rattle.{std.proofs.lemmas.Result.IfOk-weaker, crossbar5.proofs.Outcomes.{both, left_history, left_replay, refused_history, refused_replay}}
 use Rattle.crossbar5.proofs.run.replay.Goals as goal
 
 pub returns-in-Ok : goal.returns-in-Ok

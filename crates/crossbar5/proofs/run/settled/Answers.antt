@@ -1,7 +1,5 @@
 use Rattle.std.proofs.Common.{ℕ, ◌<◌, ◌^◌, ◌∙◌, length, sym, ap, subst}
-use Rattle.xbar_moves.specs.Exchange.{OfPlan}
-use Rattle.crossbar5.specs.Run.{IsOneHistory}
-use Rattle.crossbar5.proofs.SettledHistory.{settled_history}
+use Rattle.{xbar_moves.specs.Exchange.OfPlan, crossbar5.{specs.Run.IsOneHistory, proofs.SettledHistory.settled_history}}
 use Rattle.crossbar5.proofs.run.settled.Goals as goal
 
 pub returns-clause-history : goal.returns-clause-history

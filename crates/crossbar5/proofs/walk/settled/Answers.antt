@@ -1,6 +1,5 @@
 use Rattle.std.proofs.Common.{ℕ, Vec, Global, refl, ◌∙◌, ap}
-use Rattle.xbar_moves.specs.Exchange.{OfPlan}
-use Rattle.xbar_walk.specs.Walks.{Walk, walk_of_settling}
+use Rattle.{xbar_moves.specs.Exchange.OfPlan, xbar_walk.specs.Walks.{Walk, walk_of_settling}}
 use Rattle.crossbar5.proofs.walk.settled.Goals as goal
 
 pub returns : goal.returns

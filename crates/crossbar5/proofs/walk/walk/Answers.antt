@@ -1,7 +1,5 @@
 use Rattle.std.proofs.Common.{refl}
-use Rattle.std.proofs.lemmas.Result.{IfOk-weaker}
-use Rattle.crossbar5.specs.Rows.{after_rows}
-use Rattle.crossbar5.specs.Walk.{opened, walk_after_rows, whole_walk}
+use Rattle.{std.proofs.lemmas.Result.IfOk-weaker, crossbar5.specs.{Rows.after_rows, Walk.{opened, walk_after_rows, whole_walk}}}
 use Rattle.crossbar5.proofs.Outcomes.{left_walk, refused_walk}
 use Rattle.crossbar5.proofs.walk.walk.Goals as goal
 
@@ -16,7 +14,9 @@ returns-in-Ok c =
       rows = traffic.rows.items;
       fault = traffic.fault;
       read = c.in_ok-traffic.ensures.traffic;
-      told = left_walk c.args.plan.now _ c.in-Ok.office reach.reached reach.plan written.text.items written.status (whole_walk c.args.detail c.args.plan.now c.args.kinds.now traffic.rows.items) is;
+      told =
+          left_walk c.args.plan.now _ c.in-Ok.office reach.reached reach.plan written.text.items written.status
+          (whole_walk c.args.detail c.args.plan.now c.args.kinds.now traffic.rows.items) is;
     }) (c.settled.ensures (walk_after_rows traffic.rows.items begun) agrees)
 
 pub returns : goal.returns
@@ -27,5 +27,7 @@ returns c =
       rows = traffic.rows.items;
       fault = traffic.fault;
       read = c.in_ok-traffic.ensures.traffic;
-      told = refused_walk c.args.plan.now _ c.in-Err.fault reach.reached written.text.items written.status is (whole_walk c.args.detail c.args.plan.now c.args.kinds.now traffic.rows.items);
+      told =
+          refused_walk c.args.plan.now _ c.in-Err.fault reach.reached written.text.items written.status is
+          (whole_walk c.args.detail c.args.plan.now c.args.kinds.now traffic.rows.items);
     }) c.refused.ensures

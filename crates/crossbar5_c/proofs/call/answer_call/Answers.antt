@@ -1,6 +1,5 @@
 use Rattle.std.proofs.Common.{◌≡◌, Some, rules, slice_get}
-use Rattle.crossbar5_task.specs.Tasks.{tasks}
-use Rattle.crossbar5_c.specs.Answer.{Does, LacksMemory, RefusesMarkers}
+use Rattle.{crossbar5_task.specs.Tasks.tasks, crossbar5_c.specs.Answer.{Does, LacksMemory, RefusesMarkers}}
 use Rattle.crossbar5_c.proofs.call.answer_call.Goals as goal
 
 pub returns-in-Ok : goal.returns-in-Ok

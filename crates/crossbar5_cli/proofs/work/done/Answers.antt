@@ -1,5 +1,4 @@
-use Rattle.crossbar5.specs.PlanRefusal.{plan_in}
-use Rattle.crossbar5_cli.proofs.Answering.{calls_done, task_done}
+use Rattle.{crossbar5.specs.PlanRefusal.plan_in, crossbar5_cli.proofs.Answering.{calls_done, task_done}}
 use Rattle.crossbar5_cli.proofs.work.done.Goals as goal
 
 pub returns-in-Task-clause-done : goal.returns-in-Task-clause-done

@@ -1,6 +1,5 @@
 use Rattle.std.proofs.Common.{refl}
-use Rattle.crossbar5_command.specs.Program.{audit, draw, live, look, page, walk}
-use Rattle.crossbar5_command.proofs.MetSubcommand.{met_answered, replay_answered}
+use Rattle.crossbar5_command.{specs.Program.{audit, draw, live, look, page, walk}, proofs.MetSubcommand.{met_answered, replay_answered}}
 use Rattle.crossbar5_command.proofs.command_line.ask_of.Goals as goal
 
 pub returns-in-Some : goal.returns-in-Some

@@ -1,9 +1,5 @@
 use Rattle.std.proofs.Common.{take}
-use Rattle.clap.specs.Words.{rule_of}
-use Rattle.crossbar5_command.specs.Program.{rule_for}
-use Rattle.crossbar5_command.specs.Table.{named_option}
-use Rattle.crossbar5_command.proofs.AddedOptions.{IsOwn}
-use Rattle.crossbar5_command.proofs.MadeOfRows.{AreMade}
+use Rattle.{clap.specs.Words.rule_of, crossbar5_command.{specs.{Program.rule_for, Table.named_option}, proofs.{AddedOptions.IsOwn, MadeOfRows.AreMade}}}
 use Rattle.crossbar5_command.proofs.options.args_of.Given as goal
 
 abbrev pub invariant-loop-option : goal.invariant-loop-option

@@ -1,5 +1,4 @@
-use Rattle.std.proofs.lemmas.Result.{IfOk-weaker}
-use Rattle.crossbar5_command.proofs.AddedSubcommands.{program_made}
+use Rattle.{std.proofs.lemmas.Result.IfOk-weaker, crossbar5_command.proofs.AddedSubcommands.program_made}
 use Rattle.crossbar5_command.proofs.program.program.Goals as goal
 
 pub returns : goal.returns

@@ -1,8 +1,5 @@
 use Rattle.std.proofs.Common.{take}
-use Rattle.crossbar5_command.specs.Program.{shape_for}
-use Rattle.crossbar5_command.specs.Table.{named_subcommand}
-use Rattle.crossbar5_command.proofs.AddedSubcommands.{IsLocal, shape_alone}
-use Rattle.crossbar5_command.proofs.MadeOfRows.{AreMade}
+use Rattle.crossbar5_command.{specs.{Program.shape_for, Table.named_subcommand}, proofs.{AddedSubcommands.{IsLocal, shape_alone}, MadeOfRows.AreMade}}
 use Rattle.crossbar5_command.proofs.subcommands.commands_of.Given as goal
 
 abbrev pub invariant-loop-subcommand : goal.invariant-loop-subcommand

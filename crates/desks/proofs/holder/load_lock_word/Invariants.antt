@@ -1,5 +1,4 @@
-use Rattle.desks.specs.Holders.{HasLoaded}
-use Rattle.turns.specs.System.{system_of}
+use Rattle.{desks.specs.Holders.HasLoaded, turns.specs.System.system_of}
 use Rattle.desks.proofs.holder.load_lock_word.Given as goal
 
 abbrev pub ghosts-load : goal.ghosts-load

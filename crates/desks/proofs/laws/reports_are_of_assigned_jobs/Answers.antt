@@ -1,5 +1,4 @@
-use Rattle.turns.specs.System.{system_of}
-use Rattle.desks.proofs.JobKept.{back_job, step_job, steps_job, told_job}
+use Rattle.{turns.specs.System.system_of, desks.proofs.JobKept.{back_job, step_job, steps_job, told_job}}
 use Rattle.desks.proofs.laws.reports_are_of_assigned_jobs.Goals as goal
 
 pub returns-clause-stepped : goal.returns-clause-stepped

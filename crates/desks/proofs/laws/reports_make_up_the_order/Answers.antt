@@ -1,5 +1,4 @@
-use Rattle.turns.specs.System.{system_of}
-use Rattle.desks.proofs.AllReported.{are_told, each_told, still_untold, told_stands}
+use Rattle.{turns.specs.System.system_of, desks.proofs.AllReported.{are_told, each_told, still_untold, told_stands}}
 use Rattle.desks.proofs.laws.reports_make_up_the_order.Goals as goal
 
 pub returns-clause-closed : goal.returns-clause-closed

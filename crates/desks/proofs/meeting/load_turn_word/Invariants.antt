@@ -1,5 +1,4 @@
-use Rattle.desks.specs.Met.{HasSeenAllTurns}
-use Rattle.turns.specs.System.{system_of}
+use Rattle.{desks.specs.Met.HasSeenAllTurns, turns.specs.System.system_of}
 use Rattle.desks.proofs.meeting.load_turn_word.Given as goal
 
 abbrev pub ghosts-load : goal.ghosts-load

@@ -1,8 +1,5 @@
 use Rattle.std.proofs.Common.{ap, ◌∙◌}
-use Rattle.turns.specs.Attempt.{asked_in}
-use Rattle.turns.specs.System.{system_of}
-use Rattle.desks.proofs.RunningOn.{closes, comes_once, works_on}
-use Rattle.desks.proofs.Seating.{allows_seated}
+use Rattle.{turns.specs.{Attempt.asked_in, System.system_of}, desks.proofs.{RunningOn.{closes, comes_once, works_on}, Seating.allows_seated}}
 use Rattle.desks.proofs.past_turn.step_past_turn.Goals as goal
 
 pub make-found-requires-clause-allowed : goal.make-found-requires-clause-allowed
@@ -16,12 +13,14 @@ pub returns-clause-at_work : goal.returns-clause-at_work
 returns-clause-at_work g c =
     let O = system_of (g.F.Jobs.system c.args.setting.now) in
     let a = g.F.Jobs.attempt c.args.program.now in
-    works_on O c.args.actor c.args.number a _ c.args.seat.now.me c.make-found.new.seat.me c.make-found.result c.make-found.ensures.reported (c.apply_past_turn.ensures.closes ∙ closes O c.args.actor a c.in-Some.ensures.turned.0 c.make-found.result c.in-Some.ensures.turned.1)
+    works_on O c.args.actor c.args.number a _ c.args.seat.now.me c.make-found.new.seat.me c.make-found.result c.make-found.ensures.reported
+    (c.apply_past_turn.ensures.closes ∙ closes O c.args.actor a c.in-Some.ensures.turned.0 c.make-found.result c.in-Some.ensures.turned.1)
     _ _ _ _ _ _ _ _ c.requires c.apply_past_turn.ensures.valid c.make-found.ensures.same.0 c.make-found.ensures.same.2
 
 pub returns-clause-come : goal.returns-clause-come
 returns-clause-come g c made =
     let O = system_of (g.F.Jobs.system c.args.setting.now) in
     let a = g.F.Jobs.attempt c.args.program.now in
-    comes_once O c.args.actor c.args.number a _ c.args.seat.now.me c.make-found.new.seat.me c.make-found.result c.make-found.ensures.reported (c.apply_past_turn.ensures.closes ∙ closes O c.args.actor a c.in-Some.ensures.turned.0 c.make-found.result c.in-Some.ensures.turned.1)
+    comes_once O c.args.actor c.args.number a _ c.args.seat.now.me c.make-found.new.seat.me c.make-found.result c.make-found.ensures.reported
+    (c.apply_past_turn.ensures.closes ∙ closes O c.args.actor a c.in-Some.ensures.turned.0 c.make-found.result c.in-Some.ensures.turned.1)
     (ap asked_in c.in-Some.ensures.turned.1) c.in-Some.ensures.makes.goes_on

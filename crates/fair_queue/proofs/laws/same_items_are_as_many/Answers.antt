@@ -1,5 +1,4 @@
-use Rattle.std.proofs.lemmas.List.Sorted.{Contains-permutation}
-use Rattle.fair_queue.proofs.Weights.{SameItems-length, SameItems-permutation}
+use Rattle.{std.proofs.lemmas.List.Sorted.Contains-permutation, fair_queue.proofs.Weights.{SameItems-length, SameItems-permutation}}
 use Rattle.fair_queue.proofs.laws.same_items_are_as_many.Goals as goal
 
 pub returns-clause-length : goal.returns-clause-length

@@ -1,6 +1,5 @@
 use Rattle.std.proofs.Common.{sym}
-use Rattle.std.proofs.lemmas.List.Sorted.{sum_by-IsPermutation}
-use Rattle.fair_queue.proofs.Weights.{SameItems-permutation}
+use Rattle.{std.proofs.lemmas.List.Sorted.sum_by-IsPermutation, fair_queue.proofs.Weights.SameItems-permutation}
 use Rattle.fair_queue.proofs.laws.same_items_are_permutations.Goals as goal
 
 pub returns-clause-permuted : goal.returns-clause-permuted

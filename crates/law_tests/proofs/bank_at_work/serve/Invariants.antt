@@ -1,7 +1,5 @@
 use Rattle.std.proofs.Common.{◌≡◌}
-use Rattle.bank.specs.System.{bank}
-use Rattle.desks.specs.Views.{IsDeskOf}
-use Rattle.workers.specs.Workers.{IsLogOf}
+use Rattle.{bank.specs.System.bank, desks.specs.Views.IsDeskOf, workers.specs.Workers.IsLogOf}
 use Rattle.law_tests.proofs.bank_at_work.serve.Given as goal
 
 abbrev pub invariant-loop-round : goal.invariant-loop-round

@@ -1,7 +1,5 @@
 use Rattle.std.proofs.Common.{[], ◌∷◌, inl, inr, refl, subst, sym}
-use Rattle.slots.specs.Few.{list_of}
-use Rattle.slot_desks.specs.Driving.{AreSlots, LogsGiving}
-use Rattle.slot_desks.proofs.OwnSlots.{gave_half, gave_on}
+use Rattle.{slots.specs.Few.list_of, slot_desks.{specs.Driving.{AreSlots, LogsGiving}, proofs.OwnSlots.{gave_half, gave_on}}}
 use Rattle.slot_desks.proofs.driving.give_each.Goals as goal
 
 pub returns-in-One-clause-stuck : goal.returns-in-One-clause-stuck
@@ -30,7 +28,8 @@ returns-else-give-clause-given c =
     let slot = c.in-Two.slot in
     let first = subst (λ all. LogsGiving old new c.args.number (slot ∷ []) all) c.if-give.false c.give-in-Two.ensures.given in
     subst (λ taken. LogsGiving old new c.args.number (list_of taken) c.give-in-Two.result) (sym c.in-Two.is)
-    (subst (λ all. LogsGiving old new c.args.number (slot ∷ c.in-Two.other ∷ []) all) (sym c.if-give.false) (gave_half old new c.args.number slot (c.in-Two.other ∷ []) first))
+    (subst (λ all. LogsGiving old new c.args.number (slot ∷ c.in-Two.other ∷ []) all) (sym c.if-give.false)
+    (gave_half old new c.args.number slot (c.in-Two.other ∷ []) first))
 
 pub returns-else-give-clause-stuck : goal.returns-else-give-clause-stuck
 returns-else-give-clause-stuck c = λ free are failed.

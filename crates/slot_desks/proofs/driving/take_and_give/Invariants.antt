@@ -1,8 +1,5 @@
 use Rattle.std.proofs.Common.{◌≡◌, []}
-use Rattle.desks.specs.Views.{IsDeskOf}
-use Rattle.slot_desks.specs.Driving.{AreRounds, IsFree}
-use Rattle.slot_desks.specs.Ended.{GivesOwn}
-use Rattle.slots.specs.System.{slots}
+use Rattle.{desks.specs.Views.IsDeskOf, slot_desks.specs.{Driving.{AreRounds, IsFree}, Ended.GivesOwn}, slots.specs.System.slots}
 use Rattle.workers.specs.Workers.{IsLogOf, records}
 use Rattle.slot_desks.proofs.driving.take_and_give.Given as goal
 

@@ -1,8 +1,5 @@
 use Rattle.std.proofs.Common.{ℕ, map, sym, subst}
-use Rattle.desks.specs.Met.{IsEnded}
-use Rattle.slots.specs.System.{slots}
-use Rattle.workers.specs.Workers.{HaveShut, records}
-use Rattle.slot_desks.specs.Ended.{HaveEnded}
+use Rattle.{desks.specs.Met.IsEnded, slots.specs.System.slots, workers.specs.Workers.{HaveShut, records}, slot_desks.specs.Ended.HaveEnded}
 use Rattle.slot_desks.proofs.OwnSlots.{if_ok}
 use Rattle.slot_desks.proofs.on_threads.shut_shifts.Goals as goal
 

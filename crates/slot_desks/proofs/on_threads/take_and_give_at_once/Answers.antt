@@ -1,7 +1,5 @@
 use Rattle.std.proofs.Common.{[], map}
-use Rattle.slot_desks.specs.Ended.{AllGiveOwn, GivesOwn}
-use Rattle.slot_desks.proofs.OwnSlots.{if_ok, of_places}
-use Rattle.workers.specs.Workers.{records}
+use Rattle.{slot_desks.{specs.Ended.{AllGiveOwn, GivesOwn}, proofs.OwnSlots.{if_ok, of_places}}, workers.specs.Workers.records}
 use Rattle.slot_desks.proofs.on_threads.take_and_give_at_once.Goals as goal
 
 pub returns-clause-own : goal.returns-clause-own

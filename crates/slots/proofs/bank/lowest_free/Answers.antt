@@ -1,7 +1,5 @@
 use Rattle.std.proofs.Common.{◌≡◌, ℕ, ◌+◌, ◌*◌, ◌≤◌, ◌<◌, Some, None, sym, subst, arith}
-use Rattle.slots.specs.System.{free_in}
-use Rattle.slots.specs.declared.bank.TheConstants.{BANK_SIZE}
-use Rattle.slots.proofs.SlotBits.{zero_free, zero_none}
+use Rattle.slots.{specs.{System.free_in, declared.bank.TheConstants.BANK_SIZE}, proofs.SlotBits.{zero_free, zero_none}}
 use Rattle.slots.proofs.bank.lowest_free.Goals as goal
 
 pub returns-then-taken-lt-BANK_SIZE-clause-free : goal.returns-then-taken-lt-BANK_SIZE-clause-free

@@ -1,5 +1,4 @@
-use Rattle.slots.proofs.SlotBounds.{slots_bounded}
-use Rattle.slots.proofs.SlotsSystem.{slots_system}
+use Rattle.slots.proofs.{SlotBounds.slots_bounded, SlotsSystem.slots_system}
 use Rattle.slots.proofs.laws.steady_jobs_are_short.Goals as goal
 
 pub returns : goal.returns

@@ -1,6 +1,4 @@
-use Rattle.tickets.specs.System.{tickets}
-use Rattle.tickets.proofs.IsSystem.{tickets_system}
-use Rattle.turns.specs.Runs.{run_of}
+use Rattle.{tickets.{specs.System.tickets, proofs.IsSystem.tickets_system}, turns.specs.Runs.run_of}
 use Rattle.tickets.proofs.laws.jobs_act_as_if_done_whole.Goals as goal
 
 pub returns : goal.returns

@@ -1,5 +1,4 @@
-use Rattle.turns.proofs.Consequences.{decided_before}
-use Rattle.turns.proofs.KeptLocks.{frees_when, keeps_lock}
+use Rattle.turns.proofs.{Consequences.decided_before, KeptLocks.{frees_when, keeps_lock}}
 use Rattle.turns.proofs.laws.attempts_keep_their_order.Goals as goal
 
 pub returns-clause-decided : goal.returns-clause-decided

@@ -1,5 +1,4 @@
-use Rattle.turns.specs.Attempt.{act}
-use Rattle.turns.proofs.Denied.{put_off_held, put_off_preferred}
+use Rattle.turns.{specs.Attempt.act, proofs.Denied.{put_off_held, put_off_preferred}}
 use Rattle.turns.proofs.laws.denials_name_who_is_in_the_way.Goals as goal
 
 pub returns-clause-held : goal.returns-clause-held

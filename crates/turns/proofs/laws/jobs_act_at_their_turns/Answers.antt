@@ -1,5 +1,4 @@
-use Rattle.turns.proofs.CompleteWords.{made_shows, idle_shows}
-use Rattle.turns.proofs.Consequences.{held_word, free_shows}
+use Rattle.turns.proofs.{CompleteWords.{made_shows, idle_shows}, Consequences.{held_word, free_shows}}
 use Rattle.turns.proofs.laws.jobs_act_at_their_turns.Goals as goal
 
 pub returns-clause-free : goal.returns-clause-free

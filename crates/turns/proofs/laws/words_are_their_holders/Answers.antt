@@ -5,4 +5,5 @@ pub returns-clause-alone : goal.returns-clause-alone
 returns-clause-alone g c = λ setting w k number a lock system law there under. alone (g.F.Family.system setting) system w law k number a lock there under
 
 pub returns-clause-spared : goal.returns-clause-spared
-returns-clause-spared g c = λ setting w k number a n lock system law there under apart. spared (g.F.Family.system setting) system w law k number a n lock there under apart
+returns-clause-spared g c =
+    λ setting w k number a n lock system law there under apart. spared (g.F.Family.system setting) system w law k number a n lock there under apart

@@ -1,9 +1,5 @@
-use Rattle.std.proofs.Common.{◌≡◌, length}
-use Rattle.std.specs.Prelude.{true}
-use Rattle.desks.specs.Views.{IsDeskOf}
-use Rattle.turns.specs.Runs.{is_available}
-use Rattle.turns.specs.System.{system_of}
-use Rattle.workers.specs.Workers.{AreAssigned, IsLogOf}
+use Rattle.std.proofs.Common.{◌≡◌, length, true}
+use Rattle.{desks.specs.Views.IsDeskOf, turns.specs.{Runs.is_available, System.system_of}, workers.specs.Workers.{AreAssigned, IsLogOf}}
 use Rattle.workers.proofs.doing_all.do_jobs.Given as goal
 
 abbrev pub invariant-loop-ended : goal.invariant-loop-ended

@@ -1,9 +1,6 @@
-use Rattle.std.proofs.Common.{ap, ◌∙◌}
-use Rattle.std.specs.Prelude.{Some, None}
+use Rattle.std.proofs.Common.{ap, ◌∙◌, Some, None}
+use Rattle.{turns.specs.System.system_of, workers.proofs.{Logs.finished_more, Trying.{gone_more, idle_still}}}
 use Rattle.desks.specs.declared.progress.Progress.TheVariants as progress
-use Rattle.turns.specs.System.{system_of}
-use Rattle.workers.proofs.Logs.{finished_more}
-use Rattle.workers.proofs.Trying.{gone_more, idle_still}
 use Rattle.workers.proofs.driving.finish.Goals as goal
 
 pub returns-in-Finished-clause-finished : goal.returns-in-Finished-clause-finished
@@ -45,13 +42,21 @@ loop-preserved g c =
             job = c.reports_are_of_assigned_jobs.ensures.stepped setting desk.number desk.actor after.actor desk.seen after.seen c.in-Moved.field-0 came.0;
             its_job = tt;
           });
-      gone_on = gone_more (system_of (g.F.Jobs.system setting)) c.loop.counter c.args.desk.now desk after c.in-Moved.field-0 before.gone_on (record { same = same; advanced = came });
+      gone_on =
+          gone_more (system_of (g.F.Jobs.system setting)) c.loop.counter c.args.desk.now desk after c.in-Moved.field-0 before.gone_on
+          (record { same = same; advanced = came });
     }
 
 pub returns-in-Finished-clause-made : goal.returns-in-Finished-clause-made
-returns-in-Finished-clause-made g c =
-    (c.loop.counter, c.loop-test.true, c.loop.desk, c.loop.invariant.gone_on, record { same = c.advance.ensures.same; advanced = c.in-Finished.ensures.advanced })
+returns-in-Finished-clause-made g c = (
+  c.loop.counter,
+  c.loop-test.true,
+  c.loop.desk,
+  c.loop.invariant.gone_on,
+  record { same = c.advance.ensures.same; advanced = c.in-Finished.ensures.advanced },
+)
 
 pub returns-in-Idle-clause-made : goal.returns-in-Idle-clause-made
 returns-in-Idle-clause-made g c =
-    idle_still (system_of (g.F.Jobs.system c.args.setting.now)) c.loop.counter c.args.most c.args.desk.now c.loop.desk c.advance.new.self c.loop.invariant.gone_on (record { same = c.advance.ensures.same; advanced = c.in-Idle.ensures.advanced })
+    idle_still (system_of (g.F.Jobs.system c.args.setting.now)) c.loop.counter c.args.most c.args.desk.now c.loop.desk c.advance.new.self
+    c.loop.invariant.gone_on (record { same = c.advance.ensures.same; advanced = c.in-Idle.ensures.advanced })

@@ -1,8 +1,4 @@
-use Rattle.std.specs.Prelude.{None}
-use Rattle.desks.specs.Views.{IsDeskOf}
-use Rattle.turns.specs.System.{system_of}
-use Rattle.workers.specs.Tries.{HasGoneOn}
-use Rattle.workers.specs.Workers.{HasFinished}
+use Rattle.{std.specs.Prelude.None, desks.specs.Views.IsDeskOf, turns.specs.System.system_of, workers.specs.{Tries.HasGoneOn, Workers.HasFinished}}
 use Rattle.workers.proofs.driving.finish.Given as goal
 
 abbrev pub invariant-loop : goal.invariant-loop

@@ -1,12 +1,7 @@
-use Rattle.std.proofs.Common.{◌+◌, ap, subst, sym, ◌∙◌, arith}
-use Rattle.std.specs.Prelude.{None, Some}
-use Rattle.desks.specs.Views.{IsDeskOf}
+use Rattle.std.proofs.Common.{◌+◌, ap, subst, sym, ◌∙◌, arith, None, Some}
+use Rattle.{desks.specs.Views.IsDeskOf, turns.specs.System.system_of, workers.specs.Tries.denies}
+use Rattle.workers.proofs.{Logs.finished_more, Freely.freely_both, Trying.{denied_by, freely_more}}
 use Rattle.desks.specs.declared.progress.Progress.TheVariants as progress
-use Rattle.turns.specs.System.{system_of}
-use Rattle.workers.specs.Tries.{denies}
-use Rattle.workers.proofs.Logs.{finished_more}
-use Rattle.workers.proofs.Freely.{freely_both}
-use Rattle.workers.proofs.Trying.{denied_by, freely_more}
 use Rattle.workers.proofs.driving.finish_or_be_denied.Goals as goal
 
 pub returns-then-denies-clause-missed : goal.returns-then-denies-clause-missed
@@ -15,7 +10,8 @@ returns-then-denies-clause-missed g c = λ busy.
     let desk = c.loop.desk in
     let after = c.advance.new.self in
     let laws = c.steps_are_lawful_moves.ensures in
-    denied_by (system_of (g.F.Jobs.system setting)) c.args.patience c.loop.invariant.gone_on.0 c.args.desk.now desk after c.lock_to_acquire-lock.result c.lock_to_acquire-lock.ensures c.loop.invariant.gone_on.2 c.in-Moved.answer
+    denied_by (system_of (g.F.Jobs.system setting)) c.args.patience c.loop.invariant.gone_on.0 c.args.desk.now desk after c.lock_to_acquire-lock.result
+    c.lock_to_acquire-lock.ensures c.loop.invariant.gone_on.2 c.in-Moved.answer
     (record { same = c.advance.ensures.same; advanced = c.in-Moved.ensures.advanced }) (sym c.denies.ensures ∙ c.if-denies.true)
     (λ holder. laws.held setting desk.number holder desk.actor after.actor desk.seen after.seen)
     (λ other. laws.preferred setting desk.number other desk.actor after.actor desk.seen after.seen)
@@ -69,7 +65,8 @@ loop-preserved g c =
     let answer = c.in-Moved.answer in
     let more = c.in_default.ensures.goes_on came.1 in
     let both = freely_both O (before.gone_on.0 + 1) more.1.0 c.args.desk.now between after
-    (freely_more O before.gone_on.0 c.args.desk.now desk between answer before.gone_on.2 (record { same = c.advance.ensures.same; advanced = came }) (sym c.denies.ensures ∙ c.if-denies.false))
+    (freely_more O before.gone_on.0 c.args.desk.now desk between answer before.gone_on.2 (record { same = c.advance.ensures.same; advanced = came })
+    (sym c.denies.ensures ∙ c.if-denies.false))
     more.1.1 in
     record {
       desk = c.run_on.ensures.desk;
@@ -96,7 +93,9 @@ loop-preserved-in-Moved-Asked g c =
     let came = c.in-Moved-Asked.ensures.advanced in
     let answer = c.in-Moved-Asked.field-0 in
     record {
-      desk = subst (λ d. IsDeskOf d c.args.room.now setting) (sym c.advance.ensures.same) (record { table_is = before.desk.table_is; desk_is = before.desk.desk_is; room_is = before.desk.room_is });
+      desk =
+          subst (λ d. IsDeskOf d c.args.room.now setting) (sym c.advance.ensures.same)
+          (record { table_is = before.desk.table_is; desk_is = before.desk.desk_is; room_is = before.desk.room_is });
       finished = finished_more O c.args.desk.now desk after None (c.desks_report_their_records.ensures.both setting) before.finished
           (record {
             number = ap (λ d. d.number) c.advance.ensures.same;
@@ -104,6 +103,11 @@ loop-preserved-in-Moved-Asked g c =
             job = c.reports_are_of_assigned_jobs.ensures.stepped setting desk.number desk.actor after.actor desk.seen after.seen answer came.0;
             its_job = tt;
           });
-      gone_on = (before.gone_on.0 + 1, omega (arith, before.gone_on.1), freely_more O before.gone_on.0 c.args.desk.now desk after answer before.gone_on.2 (record { same = c.advance.ensures.same; advanced = came }) (ap denies c.in-Moved-Asked.field-0-is));
+      gone_on = (
+        before.gone_on.0 + 1,
+        omega (arith, before.gone_on.1),
+        freely_more O before.gone_on.0 c.args.desk.now desk after answer before.gone_on.2 (record { same = c.advance.ensures.same; advanced = came })
+            (ap denies c.in-Moved-Asked.field-0-is),
+      );
       busy = λ busy. came.1;
     }

@@ -1,10 +1,5 @@
-use Rattle.std.proofs.Common.{◌≡◌, ◌≤◌, ℕ}
-use Rattle.std.specs.Prelude.{None, false}
-use Rattle.desks.specs.Views.{IsDeskOf}
-use Rattle.turns.specs.Runs.{is_available}
-use Rattle.turns.specs.System.{system_of}
-use Rattle.workers.specs.Tries.{HasGoneOnFreely}
-use Rattle.workers.specs.Workers.{HasFinished}
+use Rattle.std.proofs.Common.{◌≡◌, ◌≤◌, ℕ, None, false}
+use Rattle.{desks.specs.Views.IsDeskOf, turns.specs.{Runs.is_available, System.system_of}, workers.specs.{Tries.HasGoneOnFreely, Workers.HasFinished}}
 use Rattle.workers.proofs.driving.finish_or_be_denied.Given as goal
 
 abbrev pub invariant-loop : goal.invariant-loop

@@ -1,8 +1,4 @@
-use Rattle.std.specs.Prelude.{None}
-use Rattle.desks.specs.Running.{IsOperating}
-use Rattle.desks.specs.Views.{IsDeskOf}
-use Rattle.turns.specs.System.{system_of}
-use Rattle.workers.specs.Workers.{HasFinished}
+use Rattle.{std.specs.Prelude.None, desks.specs.{Running.IsOperating, Views.IsDeskOf}, turns.specs.System.system_of, workers.specs.Workers.HasFinished}
 use Rattle.workers.proofs.Trying.{left_past_turn}
 use Rattle.workers.proofs.driving.finish_past_turn.Given as goal
 

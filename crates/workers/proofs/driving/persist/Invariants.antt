@@ -1,10 +1,5 @@
-use Rattle.std.proofs.Common.{◌≡◌, ℕ, suc}
-use Rattle.std.specs.Prelude.{None, false}
-use Rattle.desks.specs.Views.{IsDeskOf}
-use Rattle.turns.specs.Runs.{is_available}
-use Rattle.turns.specs.System.{system_of}
-use Rattle.workers.specs.Tries.{HasTriedInVain}
-use Rattle.workers.specs.Workers.{HasFinished}
+use Rattle.std.proofs.Common.{◌≡◌, ℕ, suc, None, false}
+use Rattle.{desks.specs.Views.IsDeskOf, turns.specs.{Runs.is_available, System.system_of}, workers.specs.{Tries.HasTriedInVain, Workers.HasFinished}}
 use Rattle.workers.proofs.driving.persist.Given as goal
 
 abbrev pub invariant-loop-made : goal.invariant-loop-made

@@ -1,8 +1,5 @@
-use Rattle.std.proofs.Common.{◌≡◌, ap, subst, sym, ◌∙◌}
-use Rattle.std.specs.Prelude.{false}
-use Rattle.turns.specs.Runs.{is_available}
-use Rattle.turns.specs.System.{system_of}
-use Rattle.workers.proofs.Freely.{run_busy, runs_freely}
+use Rattle.std.proofs.Common.{◌≡◌, ap, subst, sym, ◌∙◌, false}
+use Rattle.{turns.specs.{Runs.is_available, System.system_of}, workers.proofs.Freely.{run_busy, runs_freely}}
 use Rattle.workers.proofs.driving.run_on.Goals as goal
 
 pub returns-then-not-is_idle-clause-finished : goal.returns-then-not-is_idle-clause-finished
@@ -14,7 +11,8 @@ returns-then-not-is_idle-clause-finished g c = λ busy.
     run_busy (system_of (g.F.Jobs.system setting)) desk after c.run.result run
     (c.desks_report_their_records.ensures.made setting desk.number c.run.result desk.actor after.actor desk.seen after.seen busy run.made)
     (c.reports_are_of_assigned_jobs.ensures.made setting desk.number c.run.result desk.actor after.actor desk.seen after.seen run.made)
-    (subst (λ s. is_available (system_of (g.F.Jobs.system s)) after.actor ≡ false) (ap (λ d. d.setting) run.same ∙ c.requires.desk_is) (sym c.is_idle.ensures ∙ c.if-not-is_idle.true))
+    (subst (λ s. is_available (system_of (g.F.Jobs.system s)) after.actor ≡ false) (ap (λ d. d.setting) run.same ∙ c.requires.desk_is)
+    (sym c.is_idle.ensures ∙ c.if-not-is_idle.true))
 
 pub returns-then-not-is_idle-clause-goes_on : goal.returns-then-not-is_idle-clause-goes_on
 returns-then-not-is_idle-clause-goes_on g c = λ busy.
@@ -26,4 +24,5 @@ returns-then-not-is_idle-clause-goes_on g c = λ busy.
     (λ holder k before after seen seen_after. laws.held setting k holder before after seen seen_after)
     (λ other k before after seen seen_after. laws.preferred setting k other before after seen seen_after)
     c.run.result c.args.desk.now after run
-    (subst (λ s. is_available (system_of (g.F.Jobs.system s)) after.actor ≡ false) (ap (λ d. d.setting) run.same ∙ c.requires.desk_is) (sym c.is_idle.ensures ∙ c.if-not-is_idle.true))
+    (subst (λ s. is_available (system_of (g.F.Jobs.system s)) after.actor ≡ false) (ap (λ d. d.setting) run.same ∙ c.requires.desk_is)
+    (sym c.is_idle.ensures ∙ c.if-not-is_idle.true))

@@ -1,8 +1,5 @@
-use Rattle.std.proofs.Common.{ap, refl}
-use Rattle.std.specs.Prelude.{None}
-use Rattle.turns.specs.System.{system_of}
-use Rattle.workers.proofs.Logs.{finished_more}
-use Rattle.workers.proofs.Trying.{given_back}
+use Rattle.std.proofs.Common.{ap, refl, None}
+use Rattle.{turns.specs.System.system_of, workers.proofs.{Logs.finished_more, Trying.gave_back}}
 use Rattle.workers.proofs.driving.try_once.Goals as goal
 
 pub returns-clause-tried : goal.returns-clause-tried
@@ -21,7 +18,7 @@ returns-clause-tried g c = λ busy.
             job = c.reports_are_of_assigned_jobs.ensures.given_back setting desk.number desk.actor after.actor desk.seen after.seen back;
             its_job = tt;
           });
-      beginning = given_back O desk.number desk.actor after.actor desk.seen after.seen (c.in-Err.ensures.busy busy) (c.if-is_operating.ensures.done refl) back;
+      beginning = gave_back O desk.number desk.actor after.actor desk.seen after.seen (c.in-Err.ensures.busy busy) (c.if-is_operating.ensures.done refl) back;
       between = desk;
       missed = c.in-Err.ensures.missed busy;
       back = back;

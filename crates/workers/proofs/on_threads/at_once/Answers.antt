@@ -1,13 +1,6 @@
-use Rattle.std.proofs.Common.{◌≡◌, ◌<◌, ◌∙◌, ◌++◌, ℕ, [], length, sym, ap, subst, arith}
-use Rattle.std.specs.Prelude.{slice_index_or}
-use Rattle.std.proofs.lemmas.List.{length-map}
-use Rattle.desks.specs.Parts.{own}
-use Rattle.desks.specs.Reports.{unreported}
-use Rattle.desks.specs.Views.{IsDeskOf, new_desk}
-use Rattle.turns.specs.System.{system_of}
-use Rattle.workers.specs.Workers.{IsLogOf, records}
-use Rattle.workers.proofs.Logs.{new_log}
-use Rattle.workers.proofs.Shifts.{at_each, is_desk, new_desk_at, of_both, of_each}
+use Rattle.std.proofs.Common.{◌≡◌, ◌<◌, ◌∙◌, ◌++◌, ℕ, [], length, sym, ap, subst, arith, slice_index_or}
+use Rattle.{std.proofs.lemmas.List.length-map, desks.specs.{Parts.own, Reports.unreported, Views.{IsDeskOf, new_desk}}, turns.specs.System.system_of}
+use Rattle.workers.{specs.Workers.{IsLogOf, records}, proofs.{Logs.new_log, Shifts.{at_each, is_desk, new_desk_at, of_both, of_each}}}
 use Rattle.workers.proofs.on_threads.at_once.Goals as goal
 
 pub map_vec-requires-after_bounds : goal.map_vec-requires-after_bounds
@@ -16,7 +9,8 @@ map_vec-requires-after_bounds g c κs within i desk lt here = λ shift same empt
     let setting = c.args._setting.now in
     let O = system_of (g.F.Jobs.system setting) in
     let new = same ∙ new_desk_at room c.args.desks.items i desk c.requires.desks lt here in
-    c.requires.begins shift (is_desk room setting i shift.desk c.requires.setting new) (subst (λ l. IsLogOf O shift.desk l) (sym empty) (new_log O room i shift.desk new)) empty
+    c.requires.begins shift (is_desk room setting i shift.desk c.requires.setting new)
+    (subst (λ l. IsLogOf O shift.desk l) (sym empty) (new_log O room i shift.desk new)) empty
 
 pub returns-clause-desks : goal.returns-clause-desks
 returns-clause-desks g c =
@@ -51,7 +45,8 @@ returns-clause-logs g c =
           let call = one.call.met in
           let shift = slice_index_or shifts.items i d in
           let kept = c.requires.keeps call.0 shift call.3 in
-          subst (λ (n : ℕ). own n shift.desk.seen ≡ records shift.log.items ++ unreported O n shift.desk.actor) (kept.1 ∙ ap (λ desk. desk.number) (call.1 ∙ new)) kept.2);
+          subst (λ (n : ℕ). own n shift.desk.seen ≡ records shift.log.items ++ unreported O n shift.desk.actor)
+          (kept.1 ∙ ap (λ desk. desk.number) (call.1 ∙ new)) kept.2);
     }
 
 pub returns-clause-each : goal.returns-clause-each

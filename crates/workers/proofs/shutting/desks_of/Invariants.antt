@@ -1,5 +1,4 @@
-use Rattle.std.proofs.Common.{◌≡◌, ◌++◌, map}
-use Rattle.std.specs.Prelude.{vec_capacity}
+use Rattle.std.proofs.Common.{◌≡◌, ◌++◌, map, vec_capacity}
 use Rattle.workers.proofs.shutting.desks_of.Given as goal
 
 abbrev pub invariant-loop-shift : goal.invariant-loop-shift

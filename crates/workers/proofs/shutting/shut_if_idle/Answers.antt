@@ -1,7 +1,5 @@
 use Rattle.std.proofs.Common.{map, sym, subst}
-use Rattle.desks.specs.Reports.{HaveLogs}
-use Rattle.turns.specs.System.{system_of}
-use Rattle.workers.specs.Workers.{HaveShut, records}
+use Rattle.{desks.specs.Reports.HaveLogs, turns.specs.System.system_of, workers.specs.Workers.{HaveShut, records}}
 use Rattle.workers.proofs.shutting.shut_if_idle.Goals as goal
 
 pub returns-in-Ok-idle_desks-clause-shut : goal.returns-in-Ok-idle_desks-clause-shut
@@ -13,5 +11,6 @@ returns-in-Ok-idle_desks-clause-shut g c =
     let logs = map (λ shift. records shift.log.items) c.args.shifts.items in
     let same = c.in-Ok-idle_desks.ensures.desks in
     let have = subst (λ d. HaveLogs O d logs) (sym same) c.requires.logs in
-    let made = c.reports_make_up_the_order.ensures.closed setting c.args.room.table desks logs words c.in-Ok-idle_desks.ensures.idle have c.shut_all_into.ensures in
+    let made =
+    c.reports_make_up_the_order.ensures.closed setting c.args.room.table desks logs words c.in-Ok-idle_desks.ensures.idle have c.shut_all_into.ensures in
     subst (λ d. HaveShut O d logs words) same (record { closed = c.shut_all_into.ensures; made_up = made })

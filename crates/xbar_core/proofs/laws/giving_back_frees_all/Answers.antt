@@ -1,5 +1,4 @@
-use Rattle.xbar_moves.proofs.GivenBack.{frees_all, job_stays, others_stay, records_stay, words_stay}
-use Rattle.xbar_core.proofs.BegunJobs.{given_back_begins}
+use Rattle.{xbar_moves.proofs.GivenBack.{frees_all, job_stays, others_stay, records_stay, words_stay}, xbar_core.proofs.BegunJobs.given_back_begins}
 use Rattle.xbar_core.proofs.laws.giving_back_frees_all.Goals as goal
 
 pub returns-clause-free : goal.returns-clause-free

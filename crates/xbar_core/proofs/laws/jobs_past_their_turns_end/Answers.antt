@@ -1,5 +1,4 @@
-use Rattle.xbar_core.proofs.PastTurns.{past_turn_ends}
-use Rattle.xbar_core.proofs.ToldEvents.{last_finishes}
+use Rattle.xbar_core.proofs.{PastTurns.past_turn_ends, ToldEvents.last_finishes}
 use Rattle.xbar_core.proofs.laws.jobs_past_their_turns_end.Goals as goal
 
 pub returns-clause-ends : goal.returns-clause-ends

@@ -1,5 +1,4 @@
-use Rattle.xbar_core.proofs.SettledOffices.{office_settles, settled_idle, settles_so}
-use Rattle.xbar_core.proofs.Stages.{one_settles}
+use Rattle.xbar_core.proofs.{SettledOffices.{office_settles, settled_idle, settles_so}, Stages.one_settles}
 use Rattle.xbar_core.proofs.laws.settling_ends_all_jobs.Goals as goal
 
 pub returns-clause-settles : goal.returns-clause-settles

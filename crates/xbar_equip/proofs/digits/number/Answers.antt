@@ -1,6 +1,5 @@
 use Rattle.std.proofs.Common.{◌<◌, ◌^◌, ◌+◌, ◌*◌, arith, sym, ◌∙◌, ap}
-use Rattle.xbar_equip.specs.Digits.{digit}
-use Rattle.xbar_equip.proofs.DigitTexts.{next_below, nine_digits_fit, written_more, tested_more}
+use Rattle.xbar_equip.{specs.Digits.digit, proofs.DigitTexts.{next_below, nine_digits_fit, written_more, tested_more}}
 use Rattle.xbar_equip.proofs.digits.number.Goals as goal
 
 pub overflow_mul-number : goal.overflow_mul-number

@@ -1,8 +1,5 @@
 use Rattle.std.proofs.Common.{ℕ}
-use Rattle.xbar_equip.specs.Path.{path_by}
-use Rattle.xbar_equip.specs.Paths.{has_idle_links, channel_in_turn}
-use Rattle.xbar_equip.specs.First.{first_below}
-use Rattle.xbar_equip.proofs.FirstNumber.{first_below-law, in_turn-law}
+use Rattle.xbar_equip.{specs.{Path.path_by, Paths.{has_idle_links, channel_in_turn}, First.first_below}, proofs.FirstNumber.{first_below-law, in_turn-law}}
 use Rattle.xbar_equip.proofs.laws.channel_test_finds_the_first_idle_channel.Goals as goal
 
 pub returns : goal.returns

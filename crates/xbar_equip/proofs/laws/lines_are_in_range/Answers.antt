@@ -1,6 +1,4 @@
-use Rattle.xbar_equip.specs.Len.{is_line}
-use Rattle.xbar_equip.proofs.Lists.{all_taken}
-use Rattle.xbar_equip.proofs.Ranges.{lines_in_range}
+use Rattle.xbar_equip.{specs.Len.is_line, proofs.{Lists.all_taken, Ranges.lines_in_range}}
 use Rattle.xbar_equip.proofs.laws.lines_are_in_range.Goals as goal
 
 pub returns-clause-each : goal.returns-clause-each

@@ -1,6 +1,5 @@
 use Rattle.std.proofs.Common.{◌≡◌, true, take}
-use Rattle.std.specs.List.{list_all}
-use Rattle.xbar_equip.specs.Len.{is_line}
+use Rattle.{std.specs.List.list_all, xbar_equip.specs.Len.is_line}
 use Rattle.xbar_equip.proofs.laws.lines_are_in_range.Given as goal
 
 abbrev pub invariant-loop-line : goal.invariant-loop-line

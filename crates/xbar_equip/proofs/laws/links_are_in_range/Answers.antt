@@ -1,6 +1,4 @@
-use Rattle.xbar_equip.specs.Link.{is_link}
-use Rattle.xbar_equip.proofs.Lists.{all_taken}
-use Rattle.xbar_equip.proofs.Ranges.{links_in_range}
+use Rattle.xbar_equip.{specs.Link.is_link, proofs.{Lists.all_taken, Ranges.links_in_range}}
 use Rattle.xbar_equip.proofs.laws.links_are_in_range.Goals as goal
 
 pub returns-clause-each : goal.returns-clause-each

@@ -1,5 +1,4 @@
-use Rattle.xbar_equip.proofs.Lists.{all_taken}
-use Rattle.xbar_equip.proofs.Ranges.{is_path, paths_in_range}
+use Rattle.xbar_equip.proofs.{Lists.all_taken, Ranges.{is_path, paths_in_range}}
 use Rattle.xbar_equip.proofs.laws.paths_are_in_range.Goals as goal
 
 pub returns : goal.returns

@@ -1,6 +1,5 @@
 use Rattle.std.proofs.Common.{◌+◌, sym, ap, subst, ◌∙◌, arith}
-use Rattle.xbar_fabric.specs.Views.{HasJobNo}
-use Rattle.xbar_fabric.proofs.NewDesks.{AreFrom, built_more, first_new, later_new}
+use Rattle.xbar_fabric.{specs.Views.HasJobNo, proofs.NewDesks.{AreFrom, built_more, first_new, later_new}}
 use Rattle.xbar_fabric.proofs.fabric.assort.Goals as goal
 
 pub invariant_of-push_reserved : goal.invariant_of-push_reserved
@@ -16,7 +15,9 @@ loop-kind-preserved c =
     record {
       rest = later_new room at c.in-Some.desk _ are;
       left = omega (arith, c.in-Some.ensures.len);
-      built = built_more room c.args.kinds.now at c.in-Some.desk c.loop-kind.all.items c.push_reserved.new.self.items c.loop-kind-test.true (first_new room at c.in-Some.desk _ are) c.push_reserved.ensures.items c.loop-kind.invariant.built;
+      built =
+          built_more room c.args.kinds.now at c.in-Some.desk c.loop-kind.all.items c.push_reserved.new.self.items c.loop-kind-test.true
+          (first_new room at c.in-Some.desk _ are) c.push_reserved.ensures.items c.loop-kind.invariant.built;
       len = c.push_reserved.ensures.len ∙ ap (λ n. n + 1) c.loop-kind.invariant.len;
       room = rw c.push_reserved.ensures.capacity c.loop-kind.invariant.room;
     }

@@ -1,8 +1,5 @@
-use Rattle.std.proofs.Common.{◌≡◌, ◌+◌, ◌≤◌, ◌++◌, length, drop}
-use Rattle.std.specs.Prelude.{vec_capacity, vec_len}
-use Rattle.std.specs.Vec.Iter.{into_iter_items, into_iter_len}
-use Rattle.xbar_fabric.specs.Views.{new_desks}
-use Rattle.xbar_fabric.proofs.NewDesks.{AreFrom, fabric_of}
+use Rattle.std.proofs.Common.{◌≡◌, ◌+◌, ◌≤◌, ◌++◌, length, drop, vec_capacity, vec_len}
+use Rattle.{std.specs.Vec.Iter.{into_iter_items, into_iter_len}, xbar_fabric.{specs.Views.new_desks, proofs.NewDesks.{AreFrom, fabric_of}}}
 use Rattle.xbar_fabric.proofs.fabric.assort.Given as goal
 
 abbrev pub invariant-loop-kind : goal.invariant-loop-kind

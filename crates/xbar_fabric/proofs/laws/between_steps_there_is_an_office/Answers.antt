@@ -1,15 +1,14 @@
 use Rattle.std.proofs.Common.{ℕ, List, refl, sym, subst, ◌∙◌}
-use Rattle.turns.specs.World.{World}
-use Rattle.xbar_jobs.specs.Office.{office}
-use Rattle.xbar_moves.specs.Links.{IsClosed, OpensItsOwn}
-use Rattle.xbar_moves.specs.declared.kind.Kind.TheVariants.{Combined}
+use Rattle.{turns.specs.World.World, xbar_jobs.specs.Office.office, xbar_moves.specs.{Links.{IsClosed, OpensItsOwn}, declared.kind.Kind.TheVariants.Combined}}
 use Rattle.xbar_fabric.proofs.Offices.{is_lawful, length-made, office_of}
 use Rattle.xbar_fabric.proofs.laws.between_steps_there_is_an_office.Goals as goal
 
 pub returns-clause-office : goal.returns-clause-office
 returns-clause-office c plan count words known kept =
-    let w : World (office plan) = record { words = words; actors = kept.actors; order = kept.order } in
-    (office_of plan Combined w, record { lawful = is_lawful plan Combined w kept.lawful; words_are = refl; count_is = length-made plan Combined kept.actors ∙ kept.all })
+    let w : World (office plan) = record { words = words; actors = kept.actors; order = kept.order } in (
+      office_of plan Combined w,
+      record { lawful = is_lawful plan Combined w kept.lawful; words_are = refl; count_is = length-made plan Combined kept.actors ∙ kept.all },
+    )
 
 pub returns-clause-belongs : goal.returns-clause-belongs
 returns-clause-belongs c plan count words e cp laws on closed =

@@ -1,10 +1,7 @@
 use Rattle.std.proofs.Common.{◌≡◌, sym, ap, subst}
-use Rattle.atomic_table.specs.Seated.{TableId}
-use Rattle.desks.specs.Met as desks
-use Rattle.xbar_plan.specs.Tables.{Tables}
-use Rattle.xbar_jobs.specs.Office.{office}
-use Rattle.xbar_fabric.specs.Meetings.{FabricHasClosed}
+use Rattle.{atomic_table.specs.Seated.TableId, xbar_plan.specs.Tables.Tables, xbar_jobs.specs.Office.office, xbar_fabric.specs.Meetings.FabricHasClosed}
 use Rattle.xbar_fabric.proofs.AllDesks.{are_idle, has_closed}
+use Rattle.desks.specs.Met as desks
 use Rattle.xbar_fabric.proofs.shutting.shut_all.Goals as goal
 
 pub shut_all_into-requires-clause-desks : goal.shut_all_into-requires-clause-desks

@@ -1,7 +1,5 @@
 use Rattle.std.proofs.Common.{◌≡◌, ◌++◌, ◌∷◌, [], List, sym, ap, subst, ◌∙◌, arith, append_assoc}
-use Rattle.xbar_moves.specs.declared.kind.Kind.{Kind}
-use Rattle.xbar_fabric.specs.Views.{AreBelow, DeskView, RoomDesk, view_at}
-use Rattle.xbar_fabric.proofs.AllDesks.{below_more}
+use Rattle.{xbar_moves.specs.declared.kind.Kind.Kind, xbar_fabric.{specs.Views.{AreBelow, DeskView, RoomDesk, view_at}, proofs.AllDesks.below_more}}
 use Rattle.xbar_fabric.proofs.shutting.take_apart.Goals as goal
 
 pub loop-desk-preserved : goal.loop-desk-preserved
@@ -9,7 +7,8 @@ loop-desk-preserved c =
     let before = c.loop-desk.invariant.apart in
     let desk = c.in-Some.desk in
     let inside = c.desk.inside in
-    let is : view_at c.in-Some.desk.kind c.desk.inside.desk ≡ c.in-Some.desk = ap (λ (k : Kind). view_at k inside.desk) (sym (ap (λ (x : DeskView). x.kind) c.desk.view_is)) ∙ c.desk.view_is in
+    let is : view_at c.in-Some.desk.kind c.desk.inside.desk ≡ c.in-Some.desk =
+    ap (λ (k : Kind). view_at k inside.desk) (sym (ap (λ (x : DeskView). x.kind) c.desk.view_is)) ∙ c.desk.view_is in
     let below = below_more c.loop-desk.rest.items before.0 inside.desk desk before.2 is in
     record {
       apart = (

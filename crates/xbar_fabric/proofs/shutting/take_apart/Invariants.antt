@@ -1,7 +1,5 @@
-use Rattle.std.proofs.Common.{◌≡◌, ◌+◌, ◌≤◌, ◌++◌, List}
-use Rattle.std.specs.Prelude.{vec_capacity, vec_len}
-use Rattle.std.specs.Vec.Iter.{into_iter_items, into_iter_len}
-use Rattle.xbar_fabric.specs.Views.{AreBelow, DeskView}
+use Rattle.std.proofs.Common.{◌≡◌, ◌+◌, ◌≤◌, ◌++◌, List, vec_capacity, vec_len}
+use Rattle.{std.specs.Vec.Iter.{into_iter_items, into_iter_len}, xbar_fabric.specs.Views.{AreBelow, DeskView}}
 use Rattle.xbar_fabric.proofs.shutting.take_apart.Given as goal
 
 abbrev pub invariant-loop-desk : goal.invariant-loop-desk

@@ -1,6 +1,5 @@
 use Rattle.std.proofs.Common.{arith}
-use Rattle.attempts.proofs.Counts.{count_is}
-use Rattle.xbar_jobs.specs.Office.{office}
+use Rattle.{attempts.proofs.Counts.count_is, xbar_jobs.specs.Office.office}
 use Rattle.xbar_jobs.proofs.laws.counts_are_steps.Goals as goal
 
 pub returns-clause-count : goal.returns-clause-count

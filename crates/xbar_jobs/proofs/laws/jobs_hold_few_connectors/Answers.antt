@@ -1,5 +1,4 @@
-use Rattle.xbar_jobs.proofs.Counts.{held_is_few}
-use Rattle.xbar_jobs.proofs.JobBounds.{job_seizes}
+use Rattle.xbar_jobs.proofs.{Counts.held_is_few, JobBounds.job_seizes}
 use Rattle.xbar_jobs.proofs.laws.jobs_hold_few_connectors.Goals as goal
 
 pub returns-clause-others : goal.returns-clause-others

@@ -1,6 +1,5 @@
 use Rattle.std.proofs.Common.{◌≡◌, ℕ, [], rules, ap, ◌∙◌}
-use Rattle.turns.specs.Script.{TestThen, Ends}
-use Rattle.xbar_jobs.specs.Script.{conn_word, walk_on_words}
+use Rattle.{turns.specs.Script.{TestThen, Ends}, xbar_jobs.specs.Script.{conn_word, walk_on_words}}
 use Rattle.xbar_jobs.proofs.seen.read.Goals as goal
 
 pub returns : goal.returns

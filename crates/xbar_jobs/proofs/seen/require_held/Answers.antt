@@ -1,6 +1,5 @@
 use Rattle.std.proofs.Common.{◌≡◌, rules}
-use Rattle.xbar_jobs.specs.Closing.{value_after}
-use Rattle.xbar_jobs.specs.Script.{conn_word}
+use Rattle.xbar_jobs.specs.{Closing.value_after, Script.conn_word}
 use Rattle.xbar_jobs.proofs.seen.require_held.Goals as goal
 
 pub returns : goal.returns

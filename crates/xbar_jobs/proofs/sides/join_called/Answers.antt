@@ -1,7 +1,5 @@
 use Rattle.std.proofs.Common.{◌≡◌, rules, subst, sym}
-use Rattle.xbar_jobs.specs.Closing.{path_closes}
-use Rattle.xbar_jobs.specs.Keeping.{AreEffects}
-use Rattle.xbar_jobs.proofs.EffectRanges.{closes_range}
+use Rattle.xbar_jobs.{specs.{Closing.path_closes, Keeping.AreEffects}, proofs.EffectRanges.closes_range}
 use Rattle.xbar_jobs.proofs.sides.join_called.Goals as goal
 
 pub after-requires : goal.after-requires

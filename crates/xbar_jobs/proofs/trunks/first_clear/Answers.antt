@@ -1,6 +1,5 @@
 use Rattle.std.proofs.Common.{arith, sym}
-use Rattle.xbar_equip.proofs.FirstNumber.{first_below-found, first_below-none}
-use Rattle.xbar_jobs.specs.Trunks.{is_bit_clear}
+use Rattle.{xbar_equip.proofs.FirstNumber.{first_below-found, first_below-none}, xbar_jobs.specs.Trunks.is_bit_clear}
 use Rattle.xbar_jobs.proofs.trunks.first_clear.Goals as goal
 
 pub returns-then-is_bit_clear-clause-first : goal.returns-then-is_bit_clear-clause-first

@@ -1,7 +1,5 @@
-use Rattle.std.proofs.Common.{◌≡◌, arith}
-use Rattle.std.specs.Prelude.{decimal, string_bytes}
-use Rattle.turns.specs.Sharings.{preferring}
-use Rattle.xbar_look.proofs.Told.{all_told, next_told, none_told}
+use Rattle.std.proofs.Common.{◌≡◌, arith, decimal, string_bytes}
+use Rattle.{turns.specs.Sharings.preferring, xbar_look.proofs.Told.{all_told, next_told, none_told}}
 use Rattle.xbar_look.proofs.connectors.add_listed_requesters.Goals as goal
 
 pub loop-marker-init : goal.loop-marker-init
@@ -9,7 +7,8 @@ loop-marker-init c = none_told (string_bytes c.args.text.now)
 
 pub loop-marker-preserved : goal.loop-marker-preserved
 loop-marker-preserved c =
-    next_told (λ k. preferring.requests k c.args.word) decimal c.loop-marker.marker _ _ _ c.loop-marker.invariant _ _ c.in_ok-some.ensures.any c.in_ok-some.ensures.text
+    next_told (λ k. preferring.requests k c.args.word) decimal c.loop-marker.marker _ _ _ c.loop-marker.invariant _ _ c.in_ok-some.ensures.any
+    c.in_ok-some.ensures.text
 
 pub returns : goal.returns
 returns c =

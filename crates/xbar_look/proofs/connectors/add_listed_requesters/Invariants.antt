@@ -1,6 +1,4 @@
-use Rattle.std.specs.Prelude.{decimal, string_bytes}
-use Rattle.turns.specs.Sharings.{preferring}
-use Rattle.xbar_look.proofs.Told.{AreTold, told_below}
+use Rattle.{std.specs.Prelude.{decimal, string_bytes}, turns.specs.Sharings.preferring, xbar_look.proofs.Told.{AreTold, told_below}}
 use Rattle.xbar_look.proofs.connectors.add_listed_requesters.Given as goal
 
 abbrev pub invariant-loop-marker : goal.invariant-loop-marker

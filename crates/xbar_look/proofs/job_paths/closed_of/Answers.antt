@@ -1,7 +1,5 @@
-use Rattle.std.proofs.Common.{List, sym, subst}
-use Rattle.std.specs.Prelude.{slice_index_or}
-use Rattle.xbar_equip.specs.declared.crosspoint.Crosspoint.{Crosspoint}
-use Rattle.xbar_match.specs.Effects.{IsCrosspoint}
+use Rattle.std.proofs.Common.{List, sym, subst, slice_index_or}
+use Rattle.{xbar_equip.specs.declared.crosspoint.Crosspoint.Crosspoint, xbar_match.specs.Effects.IsCrosspoint}
 use Rattle.xbar_match.proofs.PathEffects.{crosspoint_line, crosspoint_line_junctor, crosspoint_trunk_junctor, crosspoint_trunk}
 use Rattle.xbar_look.proofs.job_paths.closed_of.Goals as goal
 

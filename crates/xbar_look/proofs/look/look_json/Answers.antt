@@ -1,5 +1,4 @@
-use Rattle.xbar_look.specs.Look.{look_object}
-use Rattle.xbar_look.proofs.Parts.{empty, then}
+use Rattle.xbar_look.{specs.Look.look_object, proofs.Parts.{empty, then}}
 use Rattle.xbar_look.proofs.look.look_json.Goals as goal
 
 pub returns : goal.returns

@@ -1,12 +1,7 @@
-use Rattle.std.proofs.Common.{◌≡◌, ◌≤◌, ◌++◌, Bool, true, List, ℕ, append_assoc, length, take, sym, ◌∙◌, ap, subst, arith}
-use Rattle.std.specs.Prelude.{[], codes, string_bytes, if◌then◌else◌}
-use Rattle.std.proofs.lemmas.List.{take_all}
-use Rattle.xbar_equip.proofs.Logic.{or_true}
-use Rattle.xbar_json.specs.Json.{listed}
-use Rattle.xbar_moves.specs.Exchange.{Marker}
-use Rattle.xbar_look.specs.Markers.{marker_object, marker_objects}
-use Rattle.xbar_look.proofs.MarkersTold.{objects_more}
-use Rattle.xbar_look.proofs.Told.{AreTold, none_told, one_told}
+use Rattle.std.proofs.Common.{◌≡◌, ◌≤◌, ◌++◌, true, List, ℕ, append_assoc, length, take, sym, ◌∙◌, ap, subst, arith, [], codes, string_bytes, if◌then◌else◌}
+use Rattle.std.proofs.Common.{take_all}
+use Rattle.{xbar_equip.proofs.Logic.or_true, xbar_json.specs.Json.listed, xbar_moves.specs.Exchange.Marker}
+use Rattle.xbar_look.{specs.Markers.{marker_object, marker_objects}, proofs.{MarkersTold.objects_more, Told.{AreTold, none_told, one_told}}}
 use Rattle.xbar_look.proofs.markers.add_listed_markers.Goals as goal
 
 pub loop-number-init : goal.loop-number-init
@@ -35,4 +30,5 @@ pub returns : goal.returns
 returns c =
     let all : length c.args.markers.now ≤ c.loop-number.number = omega (arith, c.loop-number-test.false, c.requires.count) in
     c.loop-number.invariant.text_is
-    ∙ ap (λ (told : List Marker). string_bytes c.args.text.now ++ listed (marker_objects c.args.words.now 0 told)) (take_all c.loop-number.number c.args.markers.now all)
+    ∙ ap (λ (told : List Marker). string_bytes c.args.text.now ++ listed (marker_objects c.args.words.now 0 told))
+    (take_all c.loop-number.number c.args.markers.now all)

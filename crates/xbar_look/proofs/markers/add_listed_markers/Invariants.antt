@@ -1,7 +1,5 @@
-use Rattle.std.proofs.Common.{take}
-use Rattle.std.specs.Prelude.{string_bytes}
-use Rattle.xbar_look.specs.Markers.{marker_objects}
-use Rattle.xbar_look.proofs.Told.{AreTold}
+use Rattle.std.proofs.Common.{take, string_bytes}
+use Rattle.xbar_look.{specs.Markers.marker_objects, proofs.Told.AreTold}
 use Rattle.xbar_look.proofs.markers.add_listed_markers.Given as goal
 
 abbrev pub invariant-loop-number : goal.invariant-loop-number

@@ -1,9 +1,5 @@
-use Rattle.std.proofs.Common.{◌≡◌, ◌≤◌, ◌++◌, List, ℕ, append_assoc, append-nil, length, take, sym, ◌∙◌, ap, arith}
-use Rattle.std.specs.Prelude.{string_bytes}
-use Rattle.std.proofs.lemmas.List.{take_all}
-use Rattle.xbar_moves.specs.Exchange.{Marker}
-use Rattle.xbar_look.specs.Lines.{marker_lines, markers_lines}
-use Rattle.xbar_look.proofs.MarkersTold.{lines_more}
+use Rattle.std.proofs.Common.{◌≤◌, ◌++◌, List, ℕ, append_assoc, append-nil, length, take, sym, ◌∙◌, ap, arith, string_bytes, take_all}
+use Rattle.{xbar_moves.specs.Exchange.Marker, xbar_look.{specs.Lines.{marker_lines, markers_lines}, proofs.MarkersTold.lines_more}}
 use Rattle.xbar_look.proofs.markers.add_markers_lines.Goals as goal
 
 pub loop-number-init : goal.loop-number-init
@@ -20,7 +16,8 @@ loop-number-preserved c =
     c.in_ok-add_marker_lines.ensures
     ∙ ap (λ (text : List ℕ). text ++ marker_lines words n m) c.loop-number.invariant
     ∙ append_assoc (string_bytes c.args.text.now) (markers_lines words 0 (take n markers)) (marker_lines words n m)
-    ∙ ap (λ (lines : List ℕ). string_bytes c.args.text.now ++ lines) (sym (lines_more words markers n m c.index-markers-number.is (omega (arith, within, c.requires.count))))
+    ∙ ap (λ (lines : List ℕ). string_bytes c.args.text.now ++ lines)
+    (sym (lines_more words markers n m c.index-markers-number.is (omega (arith, within, c.requires.count))))
 
 pub returns : goal.returns
 returns c =

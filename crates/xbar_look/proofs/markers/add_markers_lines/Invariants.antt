@@ -1,5 +1,4 @@
-use Rattle.std.proofs.Common.{◌≡◌, ◌++◌, take}
-use Rattle.std.specs.Prelude.{string_bytes}
+use Rattle.std.proofs.Common.{◌≡◌, ◌++◌, take, string_bytes}
 use Rattle.xbar_look.specs.Lines.{markers_lines}
 use Rattle.xbar_look.proofs.markers.add_markers_lines.Given as goal
 

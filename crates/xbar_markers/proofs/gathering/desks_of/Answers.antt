@@ -1,7 +1,5 @@
-use Rattle.std.proofs.Common.{[], ◌∷◌, ◌++◌, sym, ap, ◌∙◌}
-use Rattle.std.proofs.lemmas.List.{append_assoc, map_push}
-use Rattle.xbar_fabric.specs.Views.{DeskView}
-use Rattle.xbar_markers.specs.declared.worker.Worker.{Worker}
+use Rattle.std.proofs.Common.{[], ◌∷◌, ◌++◌, sym, ap, ◌∙◌, append_assoc}
+use Rattle.{std.proofs.lemmas.List.map_push, xbar_fabric.specs.Views.DeskView, xbar_markers.specs.declared.worker.Worker.Worker}
 use Rattle.xbar_markers.proofs.gathering.desks_of.Goals as goal
 
 pub loop-worker-preserved : goal.loop-worker-preserved

@@ -1,6 +1,5 @@
 use Rattle.std.proofs.Common.{rules}
-use Rattle.std.proofs.lemmas.List.Sorted.{IsNonDecreasingBy-from_sort_by_key}
-use Rattle.xbar_markers.proofs.DeskRuns.{on_ok}
+use Rattle.{std.proofs.lemmas.List.Sorted.IsNonDecreasingBy-from_sort_by_key, xbar_markers.proofs.DeskRuns.on_ok}
 use Rattle.xbar_markers.proofs.gathering.sort_by_turn.Goals as goal
 
 pub returns-clause-order : goal.returns-clause-order

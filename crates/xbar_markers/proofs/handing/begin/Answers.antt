@@ -1,8 +1,5 @@
 use Rattle.std.proofs.Common.{◌≡◌, ℕ, ap, zero, suc, ◌+◌, arith, subst}
-use Rattle.xbar_moves.specs.Exchange.{is_idle}
-use Rattle.xbar_fabric.specs.Views.{DeskView}
-use Rattle.xbar_markers.specs.Handing.{IsLeft}
-use Rattle.xbar_markers.specs.Work.{IsDoneOr, assigned_to}
+use Rattle.{xbar_moves.specs.Exchange.is_idle, xbar_fabric.specs.Views.DeskView, xbar_markers.specs.{Handing.IsLeft, Work.{IsDoneOr, assigned_to}}}
 use Rattle.xbar_markers.proofs.JobsInHand.{assigned_now, stays_of, steps_both}
 use Rattle.xbar_markers.proofs.handing.begin.Goals as goal
 
@@ -27,7 +24,9 @@ returns-in-Some-clause-begun c =
         done = c.in-Some.ensures.done c.args.desk c.args.job_no c.args.job left.doing;
         count = c.loop-made._made + suc zero;
         few = omega (arith, c.loop-made-test.true);
-        made = steps_both c.loop-made._made (suc zero) (assigned_to c.args.desk c.args.job_no c.args.job) c.loop-made.desk c.step_on.new.desk left.made (c.in-Some.ensures.made left.busy);
+        made =
+            steps_both c.loop-made._made (suc zero) (assigned_to c.args.desk c.args.job_no c.args.job) c.loop-made.desk c.step_on.new.desk left.made
+            (c.in-Some.ensures.made left.busy);
       },
     )
 
@@ -38,9 +37,13 @@ loop-made-preserved c =
       of = c.step_on.ensures.desk;
       below = omega (arith, c.loop-made-test.true);
       left = record {
-        doing = subst (λ o. IsDoneOr c.args.job_no c.args.job c.args.desk c.step_on.new.desk o) c.in_default-step_on.is (c.step_on.ensures.done c.args.desk c.args.job_no c.args.job left.doing);
+        doing =
+            subst (λ o. IsDoneOr c.args.job_no c.args.job c.args.desk c.step_on.new.desk o) c.in_default-step_on.is
+            (c.step_on.ensures.done c.args.desk c.args.job_no c.args.job left.doing);
         busy = c.step_on.ensures.busy left.busy c.in_default-step_on.is;
-        made = steps_both c.loop-made._made (suc zero) (assigned_to c.args.desk c.args.job_no c.args.job) c.loop-made.desk c.step_on.new.desk left.made (c.step_on.ensures.made left.busy);
+        made =
+            steps_both c.loop-made._made (suc zero) (assigned_to c.args.desk c.args.job_no c.args.job) c.loop-made.desk c.step_on.new.desk left.made
+            (c.step_on.ensures.made left.busy);
       };
     }
 

@@ -1,6 +1,5 @@
 use Rattle.std.proofs.Common.{◌≤◌}
-use Rattle.xbar_fabric.specs.Views.{IsDeskOf}
-use Rattle.xbar_markers.specs.Handing.{IsLeft}
+use Rattle.{xbar_fabric.specs.Views.IsDeskOf, xbar_markers.specs.Handing.IsLeft}
 use Rattle.xbar_markers.proofs.handing.begin.Given as goal
 
 abbrev pub invariant-loop-made : goal.invariant-loop-made

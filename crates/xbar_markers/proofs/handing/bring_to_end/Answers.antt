@@ -1,6 +1,5 @@
 use Rattle.std.proofs.Common.{subst, refl, zero, suc, ◌+◌}
-use Rattle.xbar_markers.specs.Work.{IsDoneOr}
-use Rattle.xbar_markers.proofs.JobsInHand.{steps_both}
+use Rattle.xbar_markers.{specs.Work.IsDoneOr, proofs.JobsInHand.steps_both}
 use Rattle.xbar_markers.proofs.handing.bring_to_end.Goals as goal
 
 pub loop-init : goal.loop-init
@@ -28,5 +27,6 @@ loop-preserved g c =
       busy = c.step_on.ensures.busy inv.busy c.in_default.is;
       doing = λ before number job doing. subst (λ o. IsDoneOr number job before c.step_on.new.desk o) c.in_default.is
           (c.step_on.ensures.done before number job (inv.doing before number job doing));
-      made = (inv.made.0 + suc zero, steps_both inv.made.0 (suc zero) c.args.desk.now c.loop.desk c.step_on.new.desk inv.made.1 (c.step_on.ensures.made inv.busy));
+      made =
+          (inv.made.0 + suc zero, steps_both inv.made.0 (suc zero) c.args.desk.now c.loop.desk c.step_on.new.desk inv.made.1 (c.step_on.ensures.made inv.busy));
     }

@@ -1,7 +1,5 @@
 use Rattle.std.proofs.Common.{◌≡◌, ℕ, false}
-use Rattle.xbar_office.specs.declared.job.Job.{Job}
-use Rattle.xbar_moves.specs.Exchange.{is_idle}
-use Rattle.xbar_fabric.specs.Views.{DeskView, IsDeskOf}
+use Rattle.{xbar_office.specs.declared.job.Job.Job, xbar_moves.specs.Exchange.is_idle, xbar_fabric.specs.Views.{DeskView, IsDeskOf}}
 use Rattle.xbar_markers.specs.Work.{HasMadeSteps, IsDoing}
 use Rattle.xbar_markers.proofs.handing.bring_to_end.Given as goal
 

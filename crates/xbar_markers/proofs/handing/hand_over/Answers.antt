@@ -1,10 +1,8 @@
-use denote.Exit.{no}
-use denote.Param.Send.{arg_send, param_send}
 use Rattle.std.proofs.Common.{subst}
-use Rattle.xbar_fabric.proofs.Sent.{desk_send}
-use Rattle.xbar_markers.specs.Handing.{IsBegun}
-use Rattle.xbar_markers.specs.contracts.handing.Handed as handed
+use denote.{Exit.no, Param.Send.{arg_send, param_send}}
+use Rattle.{xbar_fabric.proofs.Sent.desk_send, xbar_markers.specs.Handing.IsBegun}
 use Rattle.xbar_markers.proofs.SentDesks.{begun_row, begun_send, ended_row, ended_send, with_desk_send}
+use Rattle.xbar_markers.specs.contracts.handing.Handed as handed
 use Rattle.xbar_markers.proofs.handing.Handed.TheSendSync as handed_sent
 use Rattle.xbar_markers.proofs.handing.hand_over.Goals as goal
 

@@ -1,7 +1,5 @@
 use Rattle.std.proofs.Common.{ap}
-use Rattle.xbar_fabric.specs.Views.{DeskView}
-use Rattle.xbar_markers.proofs.HandedJobs.{busy_on, done_or}
-use Rattle.xbar_markers.proofs.JobsInHand.{advanced_on, one_step}
+use Rattle.{xbar_fabric.specs.Views.DeskView, xbar_markers.proofs.{HandedJobs.{busy_on, done_or}, JobsInHand.{advanced_on, one_step}}}
 use Rattle.xbar_markers.proofs.handing.step_on.Goals as goal
 
 pub returns-clause-done : goal.returns-clause-done

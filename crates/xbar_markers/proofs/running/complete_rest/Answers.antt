@@ -1,7 +1,5 @@
 use Rattle.std.proofs.Common.{arith, length, refl}
-use Rattle.std.proofs.lemmas.Option.{slice_get_read}
-use Rattle.xbar_markers.proofs.DeskRuns.{on_ok, served_at}
-use Rattle.xbar_markers.proofs.Serving.{served_on}
+use Rattle.{std.proofs.lemmas.Option.slice_get_read, xbar_markers.proofs.{DeskRuns.{on_ok, served_at}, Serving.served_on}}
 use Rattle.xbar_markers.proofs.running.complete_rest.Goals as goal
 
 pub returns-clause-served : goal.returns-clause-served

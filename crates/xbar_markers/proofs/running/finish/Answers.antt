@@ -1,11 +1,6 @@
 use Rattle.std.proofs.Common.{◌∙◌, ap, flat_map, subst, sum_by, sym}
-use Rattle.std.proofs.lemmas.Result.{IfOk-weaker}
-use Rattle.fair_queue.specs.Items.{SameItems}
-use Rattle.fair_queue.specs.Tickets.{TicketView}
-use Rattle.xbar_markers.specs.Calls.{records_of}
-use Rattle.xbar_markers.specs.ThreadStates.{desks_at}
-use Rattle.xbar_markers.specs.declared.call.Call.{Call}
-use Rattle.xbar_markers.proofs.WholeRuns.{whole_served, whole_worked}
+use Rattle.{std.proofs.lemmas.Result.IfOk-weaker, fair_queue.specs.{Items.SameItems, Tickets.TicketView}}
+use Rattle.xbar_markers.{specs.{Calls.records_of, ThreadStates.desks_at, declared.call.Call.Call}, proofs.WholeRuns.{whole_served, whole_worked}}
 use Rattle.xbar_markers.proofs.running.finish.Goals as goal
 
 pub complete_rest-requires-clause-kept : goal.complete_rest-requires-clause-kept

@@ -1,5 +1,4 @@
-use Rattle.std.proofs.lemmas.Result.{IfOk-weaker}
-use Rattle.xbar_markers.proofs.DesksByKindAgain.{idle_again, by_kind_again}
+use Rattle.{std.proofs.lemmas.Result.IfOk-weaker, xbar_markers.proofs.DesksByKindAgain.{idle_again, by_kind_again}}
 use Rattle.xbar_markers.proofs.running.run_desks.Goals as goal
 
 pub returns-clause-by_kind : goal.returns-clause-by_kind

@@ -1,9 +1,5 @@
 use Rattle.std.proofs.Common.{List, subst, sym}
-use Rattle.xbar_fabric.specs.Views.{DeskView}
-use Rattle.xbar_markers.specs.Calls.{AreServed}
-use Rattle.xbar_markers.specs.ThreadStates.{desks_at}
-use Rattle.xbar_markers.specs.Work.{AreShort, HaveWorked}
-use Rattle.xbar_markers.specs.declared.call.Call.{Call}
+use Rattle.{xbar_fabric.specs.Views.DeskView, xbar_markers.specs.{Calls.AreServed, ThreadStates.desks_at, Work.{AreShort, HaveWorked}, declared.call.Call.Call}}
 use Rattle.xbar_markers.proofs.running.run_filled.Goals as goal
 
 pub finish-requires-clause-share : goal.finish-requires-clause-share

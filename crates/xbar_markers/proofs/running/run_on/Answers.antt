@@ -1,9 +1,6 @@
 use Rattle.std.proofs.Common.{List, ap, subst}
-use Rattle.std.proofs.lemmas.Result.{IfOk-weaker}
-use Rattle.fair_queue.specs.Tickets.{TicketView}
-use Rattle.xbar_markers.specs.Calls.{AreServed}
-use Rattle.xbar_markers.specs.Work.{AreShort}
-use Rattle.xbar_markers.specs.declared.call.Call.{Call}
+use Rattle.{std.proofs.lemmas.Result.IfOk-weaker, fair_queue.specs.Tickets.TicketView}
+use Rattle.xbar_markers.specs.{Calls.AreServed, Work.AreShort, declared.call.Call.Call}
 use Rattle.xbar_markers.proofs.running.run_on.Goals as goal
 
 pub returns-clause-served : goal.returns-clause-served

@@ -1,11 +1,7 @@
 use Rattle.std.proofs.Common.{arith}
-use Rattle.std.proofs.lemmas.Result.{IfOk-weaker}
-use denote.Exit.{no}
-use denote.Param.Send.{arg_send, param_send}
-use Rattle.xbar_moves.specs.declared.kind.Kind.TheVariants.{Dial}
-use Rattle.xbar_markers.specs.contracts.stages.dial_stage.{G-row, W-row}
-use Rattle.xbar_markers.proofs.Sent.{state_or_error_send, state_send}
-use Rattle.xbar_markers.proofs.Stayed.{all_stayed}
+use Rattle.{std.proofs.lemmas.Result.IfOk-weaker, xbar_moves.specs.declared.kind.Kind.TheVariants.Dial}
+use Rattle.xbar_markers.{specs.contracts.stages.dial_stage.{G-row, W-row}, proofs.{Sent.{state_or_error_send, state_send}, Stayed.all_stayed}}
+use denote.{Exit.no, Param.Send.{arg_send, param_send}}
 use Rattle.xbar_markers.proofs.stages.dial_stage.Goals as goal
 
 pub map_vec-requires-send-J : goal.map_vec-requires-send-J
@@ -14,7 +10,8 @@ map_vec-requires-send-J g c κs within =
 
 pub map_vec-requires-send-X : goal.map_vec-requires-send-X
 map_vec-requires-send-X g c κs within =
-    param_send _ _ (arg_send _ no _ (state_or_error_send (W-row g.row.G g.row.R g.row.W) g.W.Words (G-row g.row.G g.row.R g.row.W) g.G.Gate c.type_bounds.send-G))
+    param_send _ _ (arg_send _ no _ (state_or_error_send (W-row g.row.G g.row.R g.row.W) g.W.Words (G-row g.row.G g.row.R g.row.W) g.G.Gate
+    c.type_bounds.send-G))
 
 pub returns : goal.returns
 returns g c =

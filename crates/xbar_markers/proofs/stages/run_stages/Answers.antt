@@ -1,9 +1,7 @@
-use denote.Exit.{no}
-use denote.Param.Send.{arg_send, param_send, shr_send}
+use denote.{Exit.no, Param.Send.{arg_send, param_send, shr_send}}
+use Rattle.xbar_markers.{specs.contracts.stages.run_stages.{G-row, W-row}, proofs.Sent.{call_send, closure_send, states_or_error_send, states_send}}
 use Rattle.std.proofs.alloc.Global.TheSendSync as global
 use Rattle.xbar_fabric.proofs.fabric.Fabric.TheSendSync as fabric
-use Rattle.xbar_markers.specs.contracts.stages.run_stages.{G-row, W-row}
-use Rattle.xbar_markers.proofs.Sent.{call_send, closure_send, states_or_error_send, states_send}
 use Rattle.xbar_markers.proofs.queues.Queues.TheSendSync as queues
 use Rattle.xbar_markers.proofs.stages.run_stages.Goals as goal
 

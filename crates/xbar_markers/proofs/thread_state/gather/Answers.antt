@@ -1,11 +1,6 @@
-use Rattle.std.proofs.Common.{[], ◌∷◌, ◌++◌, arith, map, refl, sym, ap, ◌∙◌}
-use Rattle.std.proofs.lemmas.List.{append-nil, append_assoc, length-append, map-append}
-use Rattle.std.proofs.lemmas.List.Elements.{All-head, All-same, All-tail}
-use Rattle.xbar_fabric.specs.Views.{DeskView}
-use Rattle.xbar_markers.specs.ThreadStates.{IsThreadState}
-use Rattle.xbar_markers.specs.ThreadStates.{ThreadState}
-use Rattle.xbar_markers.proofs.Joined.{IsJoined}
-use Rattle.xbar_markers.proofs.ThreadStates.{joined_may, none_joined, seat_joined}
+use Rattle.std.proofs.Common.{[], ◌∷◌, ◌++◌, arith, map, refl, sym, ap, ◌∙◌, append-nil, append_assoc, length-append}
+use Rattle.{std.proofs.lemmas.List.{map-append, Elements.{All-head, All-same, All-tail}}, xbar_fabric.specs.Views.DeskView}
+use Rattle.xbar_markers.{specs.ThreadStates.{IsThreadState, ThreadState}, proofs.{Joined.IsJoined, ThreadStates.{joined_may, none_joined, seat_joined}}}
 use Rattle.xbar_markers.proofs.thread_state.gather.Goals as goal
 
 pub loop-state-init : goal.loop-state-init

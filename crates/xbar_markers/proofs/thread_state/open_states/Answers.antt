@@ -1,14 +1,7 @@
-use Rattle.std.proofs.Common.{◌≡◌, ◌+◌, [], ◌∷◌, ◌++◌, length, map, subst, sym, ap, ◌∙◌}
-use Rattle.std.proofs.lemmas.List.{append_assoc, length-append, map-append}
-use Rattle.std.proofs.lemmas.List.Elements.{All-head, All-push, All-tail}
-use Rattle.fair_queue.specs.Tickets.{new_ticket, with_fewer_parts}
-use Rattle.xbar_fabric.specs.Views.{DeskView}
-use Rattle.xbar_markers.specs.ThreadStates.{IsThreadState, desk_at}
-use Rattle.xbar_markers.specs.Work.{IsReady}
-use Rattle.xbar_markers.specs.ThreadStates.{ThreadState}
-use Rattle.xbar_markers.proofs.Gates.{first_for, others_for}
-use Rattle.xbar_markers.proofs.Joined.{first_share}
-use Rattle.xbar_markers.proofs.ThreadStates.{both_shorter, fewer_again, new_seat, seats_and_one}
+use Rattle.std.proofs.Common.{◌≡◌, ◌+◌, [], ◌∷◌, ◌++◌, length, map, subst, sym, ap, ◌∙◌, append_assoc, length-append}
+use Rattle.{std.proofs.lemmas.List.{map-append, Elements.{All-head, All-push, All-tail}}, fair_queue.specs.Tickets.{new_ticket, with_fewer_parts}}
+use Rattle.{xbar_fabric.specs.Views.DeskView, xbar_markers.specs.{ThreadStates.{IsThreadState, desk_at, ThreadState}, Work.IsReady}}
+use Rattle.xbar_markers.proofs.{Gates.{first_for, others_for}, Joined.first_share, ThreadStates.{both_shorter, fewer_again, new_seat, seats_and_one}}
 use Rattle.xbar_markers.proofs.thread_state.open_states.Goals as goal
 
 pub new-gate-requires : goal.new-gate-requires
@@ -16,7 +9,8 @@ new-gate-requires g c =
     let inv = c.loop-desk.invariant in
     let desk = c.in-Some.desk in
     subst (g.G.Gate.IsAt c.in-Some-next.gate) (sym c.marker.ensures.marker)
-    (first_for g.G.Gate.IsAt c.loop-desk.gates.rest.items c.next-in-loop-desk.new.self.rest.items c.loop-desk.desk-iterator.rest.items c.next.new.self.rest.items c.in-Some-next.gate desk
+    (first_for g.G.Gate.IsAt c.loop-desk.gates.rest.items c.next-in-loop-desk.new.self.rest.items c.loop-desk.desk-iterator.rest.items
+    c.next.new.self.rest.items c.in-Some-next.gate desk
     c.in-Some-next.ensures.items c.in-Some.ensures.steps.0 inv.for_desks)
 
 pub loop-desk-preserved : goal.loop-desk-preserved

@@ -1,8 +1,5 @@
 use Rattle.std.proofs.Common.{◌≡◌, ◌++◌, All, length, map}
-use Rattle.fair_queue.specs.Tickets.{with_fewer_parts}
-use Rattle.xbar_markers.specs.Gates.{AreForDesks}
-use Rattle.xbar_markers.specs.ThreadStates.{AreStatesOf, IsThreadState, desk_at}
-use Rattle.xbar_markers.specs.Work.{IsReady}
+use Rattle.{fair_queue.specs.Tickets.with_fewer_parts, xbar_markers.specs.{Gates.AreForDesks, ThreadStates.{AreStatesOf, IsThreadState, desk_at}, Work.IsReady}}
 use Rattle.xbar_markers.proofs.thread_state.open_states.Given as goal
 
 abbrev pub invariant-loop-desk : goal.invariant-loop-desk

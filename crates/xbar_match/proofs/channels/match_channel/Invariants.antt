@@ -1,6 +1,5 @@
 use Rattle.std.proofs.Common.{◌≡◌, ℕ, ◌<◌, false}
-use Rattle.xbar_equip.specs.Paths.{channel_in_turn}
-use Rattle.xbar_match.specs.Channels.{match_words, is_open_channel}
+use Rattle.{xbar_equip.specs.Paths.channel_in_turn, xbar_match.specs.Channels.{match_words, is_open_channel}}
 use Rattle.xbar_match.proofs.channels.match_channel.Given as goal
 
 abbrev pub invariant-loop-k : goal.invariant-loop-k

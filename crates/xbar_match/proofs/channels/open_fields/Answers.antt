@@ -1,11 +1,9 @@
-use Rattle.std.proofs.Common.{◌≡◌, ◌≢◌, ℕ, ◌+◌, ◌*◌, ◌%◌, ◌^◌, ◌<◌, ◌==◌, if◌then◌else◌, bit_or, sym, ◌∙◌, ap, subst, arith, below_more, le_refl, refl, eq-eqb, ne_eqb, mod-eq_of_lt, w16}
-use Rattle.std.specs.Int.{bit_at}
-use Rattle.std.proofs.Math.Pow.{pow-lt}
-use Rattle.std.proofs.lemmas.Nat.{or_lt}
-use Rattle.std.proofs.lemmas.Nat.Bits.{bit_at_set_same, bit_at_set_other, bit_at_above}
+use Rattle.std.proofs.Common.{◌≡◌, ◌≢◌, ℕ, ◌+◌, ◌*◌, ◌%◌, ◌^◌, ◌<◌, ◌==◌, if◌then◌else◌, bit_or, sym, ◌∙◌, ap, subst, arith, below_more, le_refl, refl, eq-eqb}
+use Rattle.std.proofs.Common.{ne_eqb, mod-eq_of_lt, w16}
+use Rattle.std.{specs.Int.bit_at, proofs.{Math.Pow.pow-lt, lemmas.Nat.{or_lt, Bits.{bit_at_set_same, bit_at_set_other, bit_at_above}}}}
 use Rattle.xbar_switch.specs.Field.{field_of}
-use Rattle.xbar_match.proofs.channels.open_fields.Goals as goal
 use Rattle.xbar_match.proofs.channels.open_fields.Goals.{then-field-eq0, else-field-eq0}
+use Rattle.xbar_match.proofs.channels.open_fields.Goals as goal
 
 -- the bits so far, one for each field below n
 record Bits (f : ℕ → ℕ) (n bits : ℕ) : Type 0 where

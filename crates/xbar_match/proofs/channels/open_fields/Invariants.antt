@@ -1,6 +1,5 @@
 use Rattle.std.proofs.Common.{◌≡◌, ℕ, ◌^◌, ◌<◌, ◌==◌, if◌then◌else◌}
-use Rattle.std.specs.Int.{bit_at}
-use Rattle.xbar_switch.specs.Field.{field_of}
+use Rattle.{std.specs.Int.bit_at, xbar_switch.specs.Field.field_of}
 use Rattle.xbar_match.proofs.channels.open_fields.Given as goal
 
 abbrev pub invariant-loop-n : goal.invariant-loop-n

@@ -1,6 +1,5 @@
 use Rattle.std.proofs.Common.{◌≡◌, ◌≤◌, ◌==◌, if◌then◌else◌}
-use Rattle.xbar_switch.specs.Field.{field_of}
-use Rattle.xbar_match.specs.Counts.{sum_below}
+use Rattle.{xbar_switch.specs.Field.field_of, xbar_match.specs.Counts.sum_below}
 use Rattle.xbar_match.proofs.counts.count_fields.Given as goal
 
 abbrev pub invariant-loop-v : goal.invariant-loop-v

@@ -1,9 +1,6 @@
 use Rattle.std.proofs.Common.{◌≡◌, ℕ, ◌+◌, ◌/◌, ◌%◌, sym, ◌∙◌, ap, ap₂, arith}
-use Rattle.xbar_equip.specs.Word.{LineSwitch}
-use Rattle.xbar_switch.specs.declared.shape.Shape.TheVariants.{Line}
-use Rattle.xbar_match.specs.Switches.{word_of}
-use Rattle.xbar_match.specs.Counts.{closed_fields}
-use Rattle.xbar_match.proofs.ClosedCounts.{sum_below-zero, sum_below-more}
+use Rattle.{xbar_equip.specs.Word.LineSwitch, xbar_switch.specs.declared.shape.Shape.TheVariants.Line}
+use Rattle.xbar_match.{specs.{Switches.word_of, Counts.closed_fields}, proofs.ClosedCounts.{sum_below-zero, sum_below-more}}
 use Rattle.xbar_match.proofs.counts.count_line_fields.Goals as goal
 
 pub loop-k-init : goal.loop-k-init

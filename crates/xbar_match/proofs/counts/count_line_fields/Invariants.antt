@@ -1,8 +1,6 @@
 use Rattle.std.proofs.Common.{◌≡◌, ◌*◌, ◌/◌, ◌%◌, ◌≤◌}
-use Rattle.xbar_equip.specs.Word.{LineSwitch}
-use Rattle.xbar_switch.specs.declared.shape.Shape.TheVariants.{Line}
-use Rattle.xbar_match.specs.Switches.{word_of}
-use Rattle.xbar_match.specs.Counts.{sum_below, closed_fields}
+use Rattle.{xbar_equip.specs.Word.LineSwitch, xbar_switch.specs.declared.shape.Shape.TheVariants.Line}
+use Rattle.xbar_match.specs.{Switches.word_of, Counts.{sum_below, closed_fields}}
 use Rattle.xbar_match.proofs.counts.count_line_fields.Given as goal
 
 abbrev pub invariant-loop-k : goal.invariant-loop-k

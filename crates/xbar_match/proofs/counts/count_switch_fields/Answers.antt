@@ -1,7 +1,5 @@
 use Rattle.std.proofs.Common.{◌≡◌, ℕ, ◌+◌, sym, ◌∙◌, ap, ap₂, arith, slice_index}
-use Rattle.xbar_switch.specs.declared.shape.Shape.{Shape}
-use Rattle.xbar_match.specs.Switches.{shape_at}
-use Rattle.xbar_match.specs.Counts.{closed_fields}
+use Rattle.{xbar_switch.specs.declared.shape.Shape.Shape, xbar_match.specs.{Switches.shape_at, Counts.closed_fields}}
 use Rattle.xbar_match.proofs.ClosedCounts.{sum_below-zero, sum_below-more}
 use Rattle.xbar_match.proofs.counts.count_switch_fields.Goals as goal
 

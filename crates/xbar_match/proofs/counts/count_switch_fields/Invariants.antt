@@ -1,6 +1,5 @@
 use Rattle.std.proofs.Common.{◌≡◌, ◌*◌, ◌≤◌, slice_index}
-use Rattle.xbar_match.specs.Switches.{shape_at}
-use Rattle.xbar_match.specs.Counts.{sum_below, closed_fields}
+use Rattle.xbar_match.specs.{Switches.shape_at, Counts.{sum_below, closed_fields}}
 use Rattle.xbar_match.proofs.counts.count_switch_fields.Given as goal
 
 abbrev pub invariant-loop-number : goal.invariant-loop-number

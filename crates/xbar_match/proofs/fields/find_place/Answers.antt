@@ -1,6 +1,5 @@
 use Rattle.std.proofs.Common.{ℕ, ◌+◌, ◌==◌, sym, ◌∙◌, arith, eq-eqb}
-use Rattle.xbar_equip.proofs.FirstNumber.{first_below-found, first_below-none}
-use Rattle.xbar_switch.specs.Field.{field_of}
+use Rattle.{xbar_equip.proofs.FirstNumber.{first_below-found, first_below-none}, xbar_switch.specs.Field.field_of}
 use Rattle.xbar_match.proofs.fields.find_place.Goals as goal
 
 pub returns-then-field-place-clause-least : goal.returns-then-field-place-clause-least

@@ -1,5 +1,4 @@
-use Rattle.xbar_moves.proofs.KeptConnectors.{keeps_held}
-use Rattle.xbar_moves.proofs.FreedConnectors.{frees_when}
+use Rattle.xbar_moves.proofs.{KeptConnectors.keeps_held, FreedConnectors.frees_when}
 use Rattle.xbar_moves.proofs.laws.attempts_keep_their_order.Goals as goal
 
 pub returns-clause-keeps : goal.returns-clause-keeps

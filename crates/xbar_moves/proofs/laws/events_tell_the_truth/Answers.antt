@@ -1,5 +1,4 @@
-use Rattle.xbar_moves.proofs.AskedConnectors.{preference_true, refusal_true}
-use Rattle.xbar_moves.proofs.LeastRequests.{preferred_least}
+use Rattle.xbar_moves.proofs.{AskedConnectors.{preference_true, refusal_true}, LeastRequests.preferred_least}
 use Rattle.xbar_moves.proofs.laws.events_tell_the_truth.Goals as goal
 
 pub returns-clause-refused : goal.returns-clause-refused

@@ -1,5 +1,4 @@
-use Rattle.xbar_moves.proofs.Steps.{step_adds}
-use Rattle.xbar_moves.proofs.Worlds.{lawful_assigned, lawful_begun_anew, lawful_given_back, lawful_opened, lawful_settled, lawful_stepped}
+use Rattle.xbar_moves.proofs.{Steps.step_adds, Worlds.{lawful_assigned, lawful_restarted, lawful_given_back, lawful_opened, lawful_settled, lawful_stepped}}
 use Rattle.xbar_moves.proofs.laws.every_move_keeps_the_law.Goals as goal
 
 pub returns-clause-opens : goal.returns-clause-opens
@@ -11,8 +10,8 @@ returns-clause-assigns c = lawful_assigned
 pub returns-clause-steps : goal.returns-clause-steps
 returns-clause-steps c = lawful_stepped
 
-pub returns-clause-begins_anew : goal.returns-clause-begins_anew
-returns-clause-begins_anew c = lawful_begun_anew
+pub returns-clause-restarts : goal.returns-clause-restarts
+returns-clause-restarts c = lawful_restarted
 
 pub returns-clause-gives_back : goal.returns-clause-gives_back
 returns-clause-gives_back c = lawful_given_back

@@ -1,7 +1,5 @@
 use Rattle.std.proofs.Common.{[]}
-use Rattle.xbar_moves.proofs.HeldWords.{free_shows}
-use Rattle.xbar_moves.proofs.IdleMarkers.{idle_show}
-use Rattle.xbar_moves.proofs.MadeEffects.{made_show}
+use Rattle.xbar_moves.proofs.{HeldWords.free_shows, IdleMarkers.idle_show, MadeEffects.made_show}
 use Rattle.xbar_moves.proofs.Records.{completed_shows, counts, jobs_legal, records_legal, replies_legal}
 use Rattle.xbar_moves.proofs.laws.jobs_act_at_their_turns.Goals as goal
 

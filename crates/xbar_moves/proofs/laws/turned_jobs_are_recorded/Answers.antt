@@ -1,5 +1,4 @@
-use Rattle.xbar_moves.proofs.FinishedJobs.{finished_at, finishes}
-use Rattle.xbar_moves.proofs.HeldWords.{past_recorded}
+use Rattle.xbar_moves.proofs.{FinishedJobs.{finished_at, finishes}, HeldWords.past_recorded}
 use Rattle.xbar_moves.proofs.laws.turned_jobs_are_recorded.Goals as goal
 
 pub returns-clause-turned : goal.returns-clause-turned

@@ -1,6 +1,4 @@
-use Rattle.xbar_moves.proofs.Actors.{actor_at}
-use Rattle.xbar_moves.proofs.HeldWords.{holds_alone, spares_held}
-use Rattle.xbar_moves.proofs.FreedConnectors.{free_spares}
+use Rattle.xbar_moves.proofs.{Actors.actor_at, HeldWords.{holds_alone, spares_held}, FreedConnectors.free_spares}
 use Rattle.xbar_moves.proofs.laws.words_are_their_holders.Goals as goal
 
 pub returns-clause-alone : goal.returns-clause-alone

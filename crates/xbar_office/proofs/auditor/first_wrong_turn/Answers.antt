@@ -4,4 +4,5 @@ use Rattle.xbar_office.proofs.auditor.first_wrong_turn.Goals as goal
 
 pub loop-place-preserved : goal.loop-place-preserved
 loop-place-preserved c =
-    turns-more c.args.records.now c.loop-place.place c.index-records-place.result (omega arith) c.index-records-place.is c.if-record-place.false c.loop-place.invariant
+    turns-more c.args.records.now c.loop-place.place c.index-records-place.result (omega arith) c.index-records-place.is c.if-record-place.false
+    c.loop-place.invariant

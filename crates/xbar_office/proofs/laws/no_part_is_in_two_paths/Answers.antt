@@ -1,6 +1,5 @@
 use Rattle.std.proofs.Common.{[]}
-use Rattle.xbar_office.proofs.LawfulJobs.{lawful-empty, lawful-after}
-use Rattle.xbar_office.proofs.LegalRecords.{lawful-after_records}
+use Rattle.xbar_office.proofs.{LawfulJobs.{lawful-empty, lawful-after}, LegalRecords.lawful-after_records}
 use Rattle.xbar_office.proofs.laws.no_part_is_in_two_paths.Goals as goal
 
 pub returns-clause-set : goal.returns-clause-set

@@ -1,7 +1,5 @@
 use Rattle.std.proofs.Common.{◌≡◌, true, take}
-use Rattle.std.specs.List.{list_all}
-use Rattle.xbar_plan.specs.Group.{is_intra}
-use Rattle.xbar_plan.specs.Lawful.{is_group}
+use Rattle.{std.specs.List.list_all, xbar_plan.specs.{Group.is_intra, Lawful.is_group}}
 use Rattle.xbar_office.proofs.route.leads_inside.Given as goal
 
 abbrev pub invariant-loop-group : goal.invariant-loop-group

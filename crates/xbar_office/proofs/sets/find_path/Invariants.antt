@@ -1,7 +1,5 @@
 use Rattle.std.proofs.Common.{◌≡◌, ℕ, ◌<◌, false}
-use Rattle.xbar_equip.specs.Path.{path_by}
-use Rattle.xbar_equip.specs.Paths.{has_idle_links, channel_in_turn}
-use Rattle.xbar_office.specs.Chosen.{with_chosen}
+use Rattle.{xbar_equip.specs.{Path.path_by, Paths.{has_idle_links, channel_in_turn}}, xbar_office.specs.Chosen.with_chosen}
 use Rattle.xbar_office.proofs.sets.find_path.Given as goal
 
 abbrev pub invariant-loop-turn : goal.invariant-loop-turn

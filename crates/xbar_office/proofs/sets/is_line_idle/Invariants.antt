@@ -1,6 +1,5 @@
 use Rattle.std.proofs.Common.{◌≡◌, false, take}
-use Rattle.std.specs.List.{list_any}
-use Rattle.xbar_equip.specs.Paths.{has_line}
+use Rattle.{std.specs.List.list_any, xbar_equip.specs.Paths.has_line}
 use Rattle.xbar_office.proofs.sets.is_line_idle.Given as goal
 
 abbrev pub invariant-loop-path : goal.invariant-loop-path

@@ -1,9 +1,5 @@
-use Rattle.std.proofs.Common.{sym, ◌∙◌, ap}
-use Rattle.std.specs.Prelude.{Option, ◌&&◌, not}
-use Rattle.xbar_equip.specs.Paths.{has_link, is_idle}
-use Rattle.xbar_equip.specs.declared.path.Path.{Path}
-use Rattle.xbar_office.specs.Chosen.{with_chosen}
-use Rattle.xbar_office.proofs.AddedPaths.{idle-with}
+use Rattle.std.proofs.Common.{sym, ◌∙◌, ap, Option, ◌&&◌, not}
+use Rattle.{xbar_equip.specs.{Paths.{has_link, is_idle}, declared.path.Path.Path}, xbar_office.{specs.Chosen.with_chosen, proofs.AddedPaths.idle-with}}
 use Rattle.xbar_office.proofs.sets.is_link_idle_beside.Goals as goal
 
 pub returns-then-is_link_idle : goal.returns-then-is_link_idle

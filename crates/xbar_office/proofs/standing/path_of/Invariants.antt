@@ -1,5 +1,4 @@
-use Rattle.std.proofs.Common.{◌≡◌, drop}
-use Rattle.std.specs.Prelude.{find}
+use Rattle.std.proofs.Common.{◌≡◌, drop, find}
 use Rattle.xbar_equip.specs.Paths.{has_line}
 use Rattle.xbar_office.proofs.standing.path_of.Given as goal
 

@@ -1,7 +1,5 @@
-use Rattle.std.proofs.Common.{◌≡◌, ◌++◌, take}
-use Rattle.std.specs.Prelude.{flat_map, string_bytes}
-use Rattle.xbar_office_drawing.specs.Figures.{figures_text}
-use Rattle.xbar_office_drawing.specs.PathInOffice.{path_dots}
+use Rattle.std.proofs.Common.{◌≡◌, ◌++◌, take, flat_map, string_bytes}
+use Rattle.xbar_office_drawing.specs.{Figures.figures_text, PathInOffice.path_dots}
 use Rattle.xbar_office_drawing.proofs.drawing.add_all_dots.Given as goal
 
 abbrev pub invariant-loop-path : goal.invariant-loop-path

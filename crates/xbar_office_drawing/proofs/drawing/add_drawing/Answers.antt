@@ -1,5 +1,4 @@
-use Rattle.std.proofs.Common.{append_assoc, append-nil}
-use Rattle.std.proofs.lemmas.List.Concat.{flat_map-append}
+use Rattle.std.proofs.Common.{append_assoc}
 use Rattle.xbar_office_drawing.specs.Drawing.{drawing_of}
 use Rattle.xbar_office_drawing.proofs.drawing.add_drawing.Goals as goal
 

@@ -1,15 +1,14 @@
-use Rattle.std.proofs.Common.{◌∙◌}
-use Rattle.std.specs.Prelude.{string_bytes}
-use Rattle.xbar_office_drawing.specs.Drawing.{path_card_place}
-use Rattle.xbar_office_drawing.specs.Switches.{path_card}
-use Rattle.xbar_office_drawing.proofs.Laying.{last_part, next_part}
+use Rattle.std.proofs.Common.{◌∙◌, string_bytes}
+use Rattle.xbar_office_drawing.{specs.{declared.placing.TheConstants.PATH_CARDS, Switches.path_card}, proofs.Laying.{last_part, next_part}}
 use Rattle.xbar_office_drawing.proofs.drawing.add_path_cards.Goals as goal
 
 pub loop-k-preserved : goal.loop-k-preserved
 loop-k-preserved c =
-    rw c.in_ok-add_path_card_part.ensures
-    (next_part (path_card_place c.args.top) (path_card c.args.plan.now) c.args.paths.now c.loop-k.k c.index-paths-k.result (string_bytes c.loop-k.text) c.index-paths-k.is c.loop-k-test.true ∙ c.loop-k.invariant)
+    rw (c.in_ok-add_group_end.ensures, c.in_ok-add_path_card.ensures, c.in_ok-add_place.ensures)
+    (next_part PATH_CARDS c.args.top (path_card c.args.plan.now) c.args.paths.now c.loop-k.k c.index-paths-k.result (string_bytes c.loop-k.text)
+    c.index-paths-k.is c.loop-k-test.true ∙ c.loop-k.invariant)
 
 pub returns : goal.returns
 returns c =
-    last_part (path_card_place c.args.top) (path_card c.args.plan.now) c.args.paths.now c.loop-k.k (string_bytes c.loop-k.text) c.loop-k-test.false ∙ c.loop-k.invariant
+    last_part PATH_CARDS c.args.top (path_card c.args.plan.now) c.args.paths.now c.loop-k.k (string_bytes c.loop-k.text) c.loop-k-test.false
+    ∙ c.loop-k.invariant

@@ -1,15 +1,14 @@
-use Rattle.std.proofs.Common.{◌∙◌}
-use Rattle.std.specs.Prelude.{string_bytes}
-use Rattle.xbar_office_drawing.specs.Drawing.{card_place}
-use Rattle.xbar_office_drawing.specs.CardFace.{card_face}
-use Rattle.xbar_office_drawing.proofs.Laying.{last_part, next_part}
+use Rattle.std.proofs.Common.{◌∙◌, string_bytes}
+use Rattle.xbar_office_drawing.{specs.{declared.placing.TheConstants.CARDS, CardFace.card_face}, proofs.Laying.{last_part, next_part}}
 use Rattle.xbar_office_drawing.proofs.drawing.add_trouble_cards.Goals as goal
 
 pub loop-k-preserved : goal.loop-k-preserved
 loop-k-preserved c =
-    rw c.in_ok-add_card_part.ensures
-    (next_part (card_place c.args.top) card_face c.args.cards.now c.loop-k.k c.index-cards-k.result (string_bytes c.loop-k.text) c.index-cards-k.is c.loop-k-test.true ∙ c.loop-k.invariant)
+    rw (c.in_ok-add_group_end.ensures, c.in_ok-add_card.ensures, c.in_ok-add_place.ensures)
+    (next_part CARDS c.args.top card_face c.args.cards.now c.loop-k.k c.index-cards-k.result (string_bytes c.loop-k.text)
+    c.index-cards-k.is c.loop-k-test.true ∙ c.loop-k.invariant)
 
 pub returns : goal.returns
 returns c =
-    last_part (card_place c.args.top) card_face c.args.cards.now c.loop-k.k (string_bytes c.loop-k.text) c.loop-k-test.false ∙ c.loop-k.invariant
+    last_part CARDS c.args.top card_face c.args.cards.now c.loop-k.k (string_bytes c.loop-k.text) c.loop-k-test.false
+    ∙ c.loop-k.invariant

@@ -1,5 +1,4 @@
-use Rattle.xbar_office_drawing.proofs.Told.{no_shapes}
-use Rattle.xbar_office_drawing.proofs.ToldDrawing.{drawing_told}
+use Rattle.xbar_office_drawing.proofs.{Told.no_shapes, ToldDrawing.drawing_told}
 use Rattle.xbar_office_drawing.proofs.laws.each_crosspoint_and_each_card_is_drawn_once.Goals as goal
 
 pub returns-clause-drawn : goal.returns-clause-drawn

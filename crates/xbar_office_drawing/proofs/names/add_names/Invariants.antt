@@ -1,7 +1,5 @@
-use Rattle.std.proofs.Common.{◌≡◌, ◌++◌, [], drop, take}
-use Rattle.std.specs.Prelude.{string_bytes}
-use Rattle.xbar_office_drawing.specs.Figures.{figures_text}
-use Rattle.xbar_office_drawing.specs.Names.{names_from}
+use Rattle.std.proofs.Common.{◌≡◌, ◌++◌, [], drop, take, string_bytes}
+use Rattle.xbar_office_drawing.specs.{Figures.figures_text, Names.names_from}
 use Rattle.xbar_office_drawing.proofs.names.add_names.Given as goal
 
 abbrev pub invariant-loop-place : goal.invariant-loop-place

@@ -1,5 +1,4 @@
-use Rattle.std.proofs.Common.{◌≡◌, drop}
-use Rattle.std.specs.Prelude.{find}
+use Rattle.std.proofs.Common.{◌≡◌, drop, find}
 use Rattle.xbar_office_drawing.specs.Names.{is_number_of}
 use Rattle.xbar_office_drawing.proofs.names.first_number.Given as goal
 

@@ -1,7 +1,5 @@
-use Rattle.std.proofs.Common.{◌≡◌, ◌++◌, take}
-use Rattle.std.specs.Prelude.{map, string_bytes}
-use Rattle.xbar_office_drawing.specs.Office.{fault}
-use Rattle.xbar_office_drawing.specs.Figures.{figures_text}
+use Rattle.std.proofs.Common.{◌≡◌, ◌++◌, take, map, string_bytes}
+use Rattle.xbar_office_drawing.specs.{Office.fault, Figures.figures_text}
 use Rattle.xbar_office_drawing.proofs.office.add_faults.Given as goal
 
 abbrev pub invariant-loop-link : goal.invariant-loop-link

@@ -1,5 +1,4 @@
-use Rattle.std.proofs.Common.{◌≡◌, ◌++◌, take}
-use Rattle.std.specs.Prelude.{map}
+use Rattle.std.proofs.Common.{◌≡◌, ◌++◌, take, map}
 use Rattle.xbar_office_drawing.specs.Drawing.{owned_by}
 use Rattle.xbar_office_drawing.proofs.owned_card.add_cards_in.Given as goal
 

@@ -1,5 +1,4 @@
-use Rattle.std.proofs.Common.{◌≡◌, ◌++◌, replicate}
-use Rattle.std.specs.Prelude.{string_bytes}
+use Rattle.std.proofs.Common.{◌≡◌, ◌++◌, replicate, string_bytes}
 use Rattle.xbar_office_text.proofs.card_rows.add_blanks.Given as goal
 
 abbrev pub invariant-loop : goal.invariant-loop

@@ -1,7 +1,5 @@
-use Rattle.std.proofs.Common.{◌++◌, ◌==◌, append_assoc}
-use Rattle.std.specs.Prelude.{codes}
-use Rattle.xbar_office_text.specs.CardRows.{mark}
-use Rattle.xbar_office_text.proofs.Ranges.{flat_map_range_more}
+use Rattle.std.proofs.Common.{◌++◌, ◌==◌, append_assoc, codes}
+use Rattle.xbar_office_text.{specs.CardRows.mark, proofs.Ranges.flat_map_range_more}
 use Rattle.xbar_office_text.proofs.card_rows.add_ten_places.Goals as goal
 
 pub loop-place-preserved : goal.loop-place-preserved

@@ -1,7 +1,5 @@
-use Rattle.std.proofs.Common.{◌≡◌, ◌==◌, false, List, [], ◌∷◌, ◌++◌, length, refl, append_assoc}
-use Rattle.std.specs.Prelude.{codes, flat_map}
-use Rattle.xbar_equip.specs.Link.{Link}
-use Rattle.xbar_office_text.specs.Faults.{fault_line, fault_lines}
+use Rattle.std.proofs.Common.{◌≡◌, ◌==◌, false, List, [], ◌∷◌, ◌++◌, length, refl, append_assoc, codes, flat_map}
+use Rattle.{xbar_equip.specs.Link.Link, xbar_office_text.specs.Faults.{fault_line, fault_lines}}
 use Rattle.xbar_office_text.proofs.faults.add_fault_lines.Goals as goal
 
 -- if there are links, each has its line below the heading

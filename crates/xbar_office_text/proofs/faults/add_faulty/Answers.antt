@@ -1,9 +1,7 @@
 use Rattle.std.proofs.Common.{◌≡◌, true, false, arith, sym, ap, ◌∙◌, append_assoc, append-nil}
-use Rattle.std.proofs.lemmas.List.FromFn.{filter_of_map_range_with_len_more}
-use Rattle.xbar_plan.specs.Tables.{is_faulty}
-use Rattle.xbar_office_text.specs.Faults.{link_numbered}
-use Rattle.xbar_office_text.proofs.faults.add_faulty.Goals as goal
+use Rattle.{std.proofs.lemmas.List.FromFn.filter_of_map_range_with_len_more, xbar_plan.specs.Tables.is_faulty, xbar_office_text.specs.Faults.link_numbered}
 use Rattle.xbar_office_text.proofs.faults.add_faulty.Goals.{then-faulty+in_ok-push, else-faulty}
+use Rattle.xbar_office_text.proofs.faults.add_faulty.Goals as goal
 
 pub loop-number-preserved : goal.loop-number-preserved
 loop-number-preserved c =

@@ -1,8 +1,5 @@
-use Rattle.std.proofs.Common.{◌≡◌, ◌++◌}
-use Rattle.std.specs.Prelude.{filter, map}
-use Rattle.std.specs.List.{range_with_len}
-use Rattle.xbar_plan.specs.Tables.{is_faulty}
-use Rattle.xbar_office_text.specs.Faults.{link_numbered}
+use Rattle.std.proofs.Common.{◌≡◌, ◌++◌, filter, map}
+use Rattle.{std.specs.List.range_with_len, xbar_plan.specs.Tables.is_faulty, xbar_office_text.specs.Faults.link_numbered}
 use Rattle.xbar_office_text.proofs.faults.add_faulty.Given as goal
 
 abbrev pub invariant-loop-number : goal.invariant-loop-number

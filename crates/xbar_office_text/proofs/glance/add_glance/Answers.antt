@@ -1,12 +1,10 @@
-use Rattle.std.proofs.Common.{◌≡◌, ◌==◌, false, List, [], ◌∷◌, ◌++◌, length, refl, append_assoc}
-use Rattle.std.specs.Prelude.{codes, flat_map}
-use Rattle.xbar_equip.specs.declared.path.Path.{Path}
-use Rattle.xbar_plan.specs.Tables.{Tables}
-use Rattle.xbar_office_text.specs.Glance.{glance, glance_line}
+use Rattle.std.proofs.Common.{◌≡◌, ◌==◌, false, List, [], ◌∷◌, ◌++◌, length, refl, append_assoc, codes, flat_map}
+use Rattle.{xbar_equip.specs.declared.path.Path.Path, xbar_plan.specs.Tables.Tables, xbar_office_text.specs.Glance.{glance, glance_line}}
 use Rattle.xbar_office_text.proofs.glance.add_glance.Goals as goal
 
 -- if there are paths, each has its line below the heading
-some_paths : (plan : Tables) (paths : List Path) → false ≡ (length paths == 0) → codes "PATHS AT A GLANCE\n" ++ flat_map (glance_line plan) paths ≡ glance plan paths
+some_paths : (plan : Tables) (paths : List Path) → false ≡ (length paths == 0)
+    → codes "PATHS AT A GLANCE\n" ++ flat_map (glance_line plan) paths ≡ glance plan paths
 unfolding glance
 some_paths plan [] e = cc
 some_paths plan (path ∷ paths) e = refl

@@ -1,5 +1,4 @@
-use Rattle.std.proofs.Common.{◌≡◌, ◌++◌, take}
-use Rattle.std.specs.Prelude.{flat_map, string_bytes}
+use Rattle.std.proofs.Common.{◌≡◌, ◌++◌, take, flat_map, string_bytes}
 use Rattle.xbar_office_text.specs.Glance.{glance_line}
 use Rattle.xbar_office_text.proofs.glance.add_glance_lines.Given as goal
 

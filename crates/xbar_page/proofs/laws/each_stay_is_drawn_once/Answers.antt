@@ -1,11 +1,6 @@
-use Rattle.xbar_office_drawing.specs.Drawing.{path_alone}
-use Rattle.xbar_office_drawing.specs.Drawn.{is_evidence}
-use Rattle.xbar_office_drawing.specs.Office.{office}
-use Rattle.xbar_office_drawing.specs.PathInOffice.{path_dots}
-use Rattle.xbar_office_drawing.proofs.Filters.{none_then, told_flat}
-use Rattle.xbar_office_drawing.proofs.Told.{no_office, path_told}
-use Rattle.std.proofs.Common.{◌∙◌}
-use Rattle.std.specs.Prelude.{flat_map}
+use Rattle.std.proofs.Common.{◌∙◌, flat_map}
+use Rattle.xbar_office_drawing.specs.{Drawing.path_alone, Drawn.is_evidence, Office.office, PathInOffice.path_dots}
+use Rattle.xbar_office_drawing.proofs.{Filters.{none_then, told_flat}, Told.{no_office, path_told}}
 use Rattle.xbar_page.proofs.laws.each_stay_is_drawn_once.Goals as goal
 
 pub returns : goal.returns

@@ -1,5 +1,4 @@
-use Rattle.std.proofs.Common.{[]}
-use Rattle.std.specs.Prelude.{None}
+use Rattle.std.proofs.Common.{[], None}
 use Rattle.xbar_page.proofs.SectionPlaces.{length-sections, shown_at}
 use Rattle.xbar_page.proofs.laws.each_turn_has_its_section.Goals as goal
 

@@ -1,7 +1,5 @@
-use Rattle.std.proofs.Common.{◌≡◌, [], ◌++◌, drop}
-use Rattle.std.specs.Prelude.{None, flat_map, string_bytes}
-use Rattle.xbar_page.specs.Section.{section_text}
-use Rattle.xbar_page.specs.Sections.{sections_from}
+use Rattle.std.proofs.Common.{◌≡◌, [], ◌++◌, drop, None, flat_map, string_bytes}
+use Rattle.xbar_page.specs.{Section.section_text, Sections.sections_from}
 use Rattle.xbar_page.proofs.page.add_sections.Given as goal
 
 abbrev pub invariant-loop-place : goal.invariant-loop-place

@@ -1,9 +1,5 @@
-use Rattle.std.proofs.Common.{◌≡◌, ap, ◌∙◌}
-use Rattle.std.specs.Prelude.{None}
-use Rattle.xbar_office.specs.State.{State}
-use Rattle.xbar_office.specs.Whole.{whole}
-use Rattle.xbar_plan.specs.Tables.{Tables}
-use Rattle.xbar_page.proofs.SectionSteps.{next_set, no_set}
+use Rattle.std.proofs.Common.{◌≡◌, ap, ◌∙◌, None}
+use Rattle.{xbar_office.specs.{State.State, Whole.whole}, xbar_plan.specs.Tables.Tables, xbar_page.proofs.SectionSteps.{next_set, no_set}}
 use Rattle.xbar_page.proofs.page.sets_after.Goals as goal
 
 pub loop-owner-preserved : goal.loop-owner-preserved
@@ -21,4 +17,5 @@ loop-owner-preserved c =
 
 pub returns : goal.returns
 returns c =
-    no_set c.args.plan.now None c.args.records.now c.loop-owner.owner-index c.loop-owner.office.paths c.loop-owner.sets.items c.loop-owner-test.false ∙ c.loop-owner.invariant.sets
+    no_set c.args.plan.now None c.args.records.now c.loop-owner.owner-index c.loop-owner.office.paths c.loop-owner.sets.items c.loop-owner-test.false
+    ∙ c.loop-owner.invariant.sets

@@ -1,7 +1,5 @@
-use Rattle.std.proofs.Common.{◌≡◌, [], ◌++◌, drop}
-use Rattle.std.specs.Prelude.{None}
-use Rattle.xbar_page.specs.Sections.{sections, sections_from}
-use Rattle.xbar_page.specs.Stays.{sets_of}
+use Rattle.std.proofs.Common.{◌≡◌, ◌++◌, drop, None}
+use Rattle.xbar_page.specs.{Sections.{sections, sections_from}, Stays.sets_of}
 use Rattle.xbar_page.proofs.page.sets_after.Given as goal
 
 abbrev pub invariant-loop-owner : goal.invariant-loop-owner

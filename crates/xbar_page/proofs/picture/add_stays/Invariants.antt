@@ -1,5 +1,4 @@
-use Rattle.std.proofs.Common.{◌≡◌, ◌++◌, take}
-use Rattle.std.specs.Prelude.{flat_map, string_bytes}
+use Rattle.std.proofs.Common.{◌≡◌, ◌++◌, take, flat_map, string_bytes}
 use Rattle.xbar_page.specs.Picture.{stay_text}
 use Rattle.xbar_page.proofs.picture.add_stays.Given as goal
 

@@ -1,7 +1,5 @@
-use Rattle.std.proofs.Common.{◌≡◌, ◌++◌, map, take}
-use Rattle.std.specs.Prelude.{flat_map, string_bytes}
-use Rattle.xbar_page.specs.Section.{card_item_text}
-use Rattle.xbar_page.specs.Words.{card_words}
+use Rattle.std.proofs.Common.{◌≡◌, ◌++◌, map, take, flat_map, string_bytes}
+use Rattle.xbar_page.specs.{Section.card_item_text, Words.card_words}
 use Rattle.xbar_page.proofs.sentences.add_cards.Given as goal
 
 abbrev pub invariant-loop-card : goal.invariant-loop-card

@@ -1,7 +1,5 @@
-use Rattle.std.proofs.Common.{◌≡◌, ◌++◌, map, take}
-use Rattle.std.specs.Prelude.{flat_map, string_bytes}
-use Rattle.xbar_page.specs.Section.{item_text}
-use Rattle.xbar_page.specs.Words.{set_up_words}
+use Rattle.std.proofs.Common.{◌≡◌, ◌++◌, map, take, flat_map, string_bytes}
+use Rattle.xbar_page.specs.{Section.item_text, Words.set_up_words}
 use Rattle.xbar_page.proofs.sentences.add_set_up.Given as goal
 
 abbrev pub invariant-loop-path : goal.invariant-loop-path

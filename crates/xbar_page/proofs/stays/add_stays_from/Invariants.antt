@@ -1,5 +1,4 @@
-use Rattle.std.proofs.Common.{◌≡◌, ◌++◌, map, take}
-use Rattle.std.specs.Prelude.{filter, not}
+use Rattle.std.proofs.Common.{◌≡◌, ◌++◌, map, take, filter, not}
 use Rattle.xbar_page.specs.Stays.{has_path, stay_from}
 use Rattle.xbar_page.proofs.stays.add_stays_from.Given as goal
 

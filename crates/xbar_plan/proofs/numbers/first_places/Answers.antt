@@ -1,9 +1,8 @@
-use Rattle.std.proofs.Common.{◌≡◌, ◌<◌, true, false, length, get_or, sym, ◌∙◌, ap, arith}
-use Rattle.std.specs.Prelude.{Some, None, is_some}
-use Rattle.std.proofs.lemmas.List.{get_or_read, length-set}
-use Rattle.xbar_plan.proofs.FirstPlaces.{placed, kept}
+use Rattle.std.proofs.Common.{◌≡◌, ◌<◌, true, false, length, get_or, sym, ◌∙◌, ap, arith, Some, None, is_some, length-set}
+use Rattle.{std.proofs.lemmas.List.get_or_read, xbar_plan.proofs.FirstPlaces.{placed, kept}}
+use Rattle.xbar_plan.proofs.numbers.first_places.Goals.{then-number-count+then-is_none, else-number-count, else-number-count-via-then-number-count+else-is_none}
+use Rattle.xbar_plan.proofs.numbers.first_places.Goals.{else-number-count-via-else-number-count}
 use Rattle.xbar_plan.proofs.numbers.first_places.Goals as goal
-use Rattle.xbar_plan.proofs.numbers.first_places.Goals.{then-number-count+then-is_none, else-number-count, else-number-count-via-then-number-count+else-is_none, else-number-count-via-else-number-count}
 
 pub loop-place-preserved : goal.loop-place-preserved
 loop-place-preserved c =
@@ -16,12 +15,16 @@ loop-place-preserved c =
           let free : is_some (get_or c.loop-place.places.items c.from-number.result None) ≡ false = ap is_some (sym read) ∙ w.if-is_none.ensures in
           rw w.places-is (record {
             size = length-set c.loop-place.places.items c.from-number.result (Some c.loop-place.place) ∙ size;
-            first = placed c.loop-place.places.items c.args.numbers.now c.loop-place.place c.from-number.result c.args.count c.loop-place-test.true c.from-number.ensures size below free c.loop-place.invariant.first;
+            first =
+                placed c.loop-place.places.items c.args.numbers.now c.loop-place.place c.from-number.result c.args.count c.loop-place-test.true
+                c.from-number.ensures size below free c.loop-place.invariant.first;
           })
       | else-number-count w ↦ rw w.places-is (record {
         size = size;
-        first = kept c.loop-place.places.items c.args.numbers.now c.loop-place.place c.from-number.result c.args.count c.loop-place-test.true c.from-number.ensures
-            (elim w.else-number-count.branch as (λ _. c.from-number.result < c.args.count → is_some (get_or c.loop-place.places.items c.from-number.result None) ≡ true) [
+        first =
+            kept c.loop-place.places.items c.args.numbers.now c.loop-place.place c.from-number.result c.args.count c.loop-place-test.true c.from-number.ensures
+            (elim w.else-number-count.branch as (λ _. c.from-number.result < c.args.count → is_some (get_or c.loop-place.places.items c.from-number.result None)
+            ≡ true) [
               | else-number-count-via-then-number-count+else-is_none v ↦ λ below.
                   let fits : c.from-number.result < length c.loop-place.places.items = omega (arith, size, below) in
                   let read = get_or_read c.loop-place.places.items c.from-number.result v.index.result.now fits v.index.ensures None in

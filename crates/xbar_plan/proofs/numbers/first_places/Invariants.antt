@@ -1,5 +1,4 @@
-use Rattle.std.proofs.Common.{◌≡◌, ℕ, ◌<◌, length, take, get_or}
-use Rattle.std.specs.Prelude.{◌==◌, None, position}
+use Rattle.std.proofs.Common.{◌≡◌, ℕ, ◌<◌, length, take, get_or, ◌==◌, None, position}
 use Rattle.xbar_plan.proofs.numbers.first_places.Given as goal
 
 -- the first index of each number among those so far

@@ -1,6 +1,5 @@
 use Rattle.std.proofs.Common.{◌∙◌}
-use Rattle.xbar_equip.specs.Link.{link_text}
-use Rattle.xbar_plan_text.proofs.WrittenText.{array_listed}
+use Rattle.{xbar_equip.specs.Link.link_text, xbar_plan_text.proofs.WrittenText.array_listed}
 use Rattle.xbar_plan_text.proofs.write.faults_value.Goals as goal
 
 pub returns : goal.returns

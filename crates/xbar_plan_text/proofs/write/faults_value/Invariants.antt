@@ -1,7 +1,5 @@
 use Rattle.std.proofs.Common.{◌≡◌, map, take}
-use Rattle.toml.specs.Data.{string}
-use Rattle.toml.specs.View.{view}
-use Rattle.xbar_equip.specs.Link.{link_text}
+use Rattle.{toml.specs.{Data.string, View.view}, xbar_equip.specs.Link.link_text}
 use Rattle.xbar_plan_text.proofs.write.faults_value.Given as goal
 
 abbrev pub invariant-loop-link : goal.invariant-loop-link

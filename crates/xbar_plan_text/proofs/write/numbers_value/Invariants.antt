@@ -1,7 +1,5 @@
 use Rattle.std.proofs.Common.{◌≡◌, map, take}
-use Rattle.toml.specs.Data.{string}
-use Rattle.toml.specs.View.{view}
-use Rattle.xbar_plan_text.specs.Written.{station_text}
+use Rattle.{toml.specs.{Data.string, View.view}, xbar_plan_text.specs.Written.station_text}
 use Rattle.xbar_plan_text.proofs.write.numbers_value.Given as goal
 
 abbrev pub invariant-loop-station : goal.invariant-loop-station

@@ -1,6 +1,5 @@
 use Rattle.std.proofs.Common.{◌∙◌, ap}
-use Rattle.toml.specs.View.{members_view}
-use Rattle.xbar_plan_text.proofs.WrittenText.{put_before}
+use Rattle.{toml.specs.View.members_view, xbar_plan_text.proofs.WrittenText.put_before}
 use Rattle.xbar_plan_text.proofs.write.put_first.Goals as goal
 
 pub returns : goal.returns

@@ -1,13 +1,7 @@
-use Rattle.std.proofs.Common.{◌≡◌, ◌≤◌, ℕ, Vec, Global, string_bytes, ◌∙◌, ap}
-use Rattle.std.specs.Prelude.{Some}
-use Rattle.std.specs.Str.{IsUtf8}
-use Rattle.toml.specs.Data.{Members, members_depth}
-use Rattle.toml.specs.Parse.{parse_document}
-use Rattle.toml.specs.View.{table_view}
-use Rattle.xbar_plan.specs.TableSlices.{tables_of}
+use Rattle.std.proofs.Common.{◌≡◌, ◌≤◌, ℕ, Vec, Global, string_bytes, ◌∙◌, ap, Some, IsUtf8}
+use Rattle.{toml.specs.{Data.{Members, members_depth}, Parse.parse_document, View.table_view}, xbar_plan.specs.TableSlices.tables_of}
 use Rattle.xbar_plan_text.specs.Written.{document_in_version_2}
-use Rattle.xbar_plan_text.proofs.WrittenPlan.{bytes-back, version-back}
-use Rattle.xbar_plan_text.proofs.WrittenText.{bytes_are_text, document_is_shallow}
+use Rattle.xbar_plan_text.proofs.{WrittenPlan.{bytes-back, version-back}, WrittenText.{bytes_are_text, document_is_shallow}}
 use Rattle.xbar_plan_text.proofs.write.version_2.Goals as goal
 
 pub returns-in-Ok : goal.returns-in-Ok

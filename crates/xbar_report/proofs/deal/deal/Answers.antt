@@ -1,7 +1,5 @@
-use Rattle.std.proofs.Common.{◌∙◌, ◌++◌, List, length, drop, sym, ap, arith}
-use Rattle.std.proofs.lemmas.List.{append-nil, drop_all, take_all}
-use Rattle.xbar_office.specs.declared.reply.Record.{Record}
-use Rattle.xbar_report.specs.Dealt.{dealt_records, left_of}
+use Rattle.std.proofs.Common.{◌∙◌, ◌++◌, List, length, drop, sym, ap, arith, append-nil, take_all}
+use Rattle.{std.proofs.lemmas.List.drop_all, xbar_office.specs.declared.reply.Record.Record, xbar_report.specs.Dealt.{dealt_records, left_of}}
 use Rattle.xbar_report.proofs.Deals.{deal_step, dealt_none, left_all}
 use Rattle.xbar_report.proofs.deal.deal.Goals as goal
 
@@ -11,7 +9,8 @@ loop-record-init c =
 
 pub loop-record-preserved : goal.loop-record-preserved
 loop-record-preserved c =
-    deal_step c.args.records.now c.loop-record.records c.args.cards.now c.loop-record.rest.now c.split_at.result.0.now c.split_at.result.1.now c.cards_of-record.result
+    deal_step c.args.records.now c.loop-record.records c.args.cards.now c.loop-record.rest.now c.split_at.result.0.now c.split_at.result.1.now
+    c.cards_of-record.result
     c.loop-record.record-index c.own_count.result c.record-item.result (omega arith) c.loop-record.invariant.0 c.loop-record.invariant.1
     c.own_count.ensures.value c.split_at.ensures.front c.split_at.ensures.back c.cards_of-record.ensures
 
@@ -25,4 +24,5 @@ returns-clause-records c =
 
 pub returns-clause-left : goal.returns-clause-left
 returns-clause-left c =
-    ap length (c.loop-record.invariant.1 ∙ ap (λ (rs : List Record). left_of rs c.args.cards.now) (take_all c.loop-record.record-index c.args.records.now c.loop-record-test.false))
+    ap length (c.loop-record.invariant.1
+    ∙ ap (λ (rs : List Record). left_of rs c.args.cards.now) (take_all c.loop-record.record-index c.args.records.now c.loop-record-test.false))

@@ -1,7 +1,5 @@
-use Rattle.std.proofs.Common.{◌∷◌, ◌∙◌, [], arith}
-use Rattle.std.specs.Prelude.{decimal}
-use Rattle.xbar_report.specs.Text.{line_with}
-use Rattle.xbar_report.proofs.LineFields.{decimal_has_no_end, line_cut}
+use Rattle.std.proofs.Common.{◌∷◌, ◌∙◌, [], arith, decimal}
+use Rattle.xbar_report.{specs.Text.line_with, proofs.LineFields.{decimal_has_no_end, line_cut}}
 use Rattle.xbar_report.proofs.fields.count_of.Goals as goal
 
 pub returns : goal.returns

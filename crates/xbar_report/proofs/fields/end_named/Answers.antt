@@ -1,9 +1,5 @@
-use Rattle.std.proofs.Common.{◌∙◌, rules}
-use Rattle.std.specs.Str.{bytes_eq}
-use Rattle.std.proofs.lemmas.Iterator.{YieldsList-from_slice}
-use Rattle.std.proofs.lemmas.Iterator.Search.{find_from_yields_List}
-use borrow.Author.Tests.{tests}
-use Rattle.xbar_report.specs.Parts.{end_name}
+use Rattle.std.proofs.Common.{◌∙◌, rules, bytes_eq, tests}
+use Rattle.{std.proofs.lemmas.Iterator.{YieldsList-from_slice, Search.find_from_yields_List}, xbar_report.specs.Parts.end_name}
 use Rattle.xbar_report.proofs.fields.end_named.Goals as goal
 
 pub returns : goal.returns

@@ -1,12 +1,6 @@
-use Rattle.std.proofs.Common.{◌≡◌, ◌∙◌, refl}
-use Rattle.std.specs.Prelude.{Option, None, IfSome}
-use Rattle.xbar_equip.specs.Path.{IsPath}
-use Rattle.xbar_equip.specs.declared.path.Path.{Path}
-use Rattle.xbar_office.specs.declared.reply.End.{End}
-use Rattle.xbar_office.specs.declared.reply.End.TheVariants.{Connected, Released}
-use Rattle.xbar_report.specs.Parts.{end_second}
-use Rattle.xbar_report.specs.Ranges.{IsEnd}
-use Rattle.xbar_report.specs.Text.{path_field}
+use Rattle.std.proofs.Common.{◌≡◌, ◌∙◌, refl, Option, None, IfSome}
+use Rattle.{xbar_equip.specs.{Path.IsPath, declared.path.Path.Path}, xbar_office.specs.declared.reply.End.{End, TheVariants.{Connected, Released}}}
+use Rattle.xbar_report.specs.{Parts.end_second, Ranges.IsEnd, Text.path_field}
 use Rattle.xbar_report.proofs.fields.named_end.Goals as goal
 
 -- the last field of an end is that of a path, or of none

@@ -7,7 +7,9 @@ returns-in_err-turn-clause-reads c r range e = absurd (numbers_of r range (λ _ 
 
 pub returns-in_err-kind-clause-reads : goal.returns-in_err-kind-clause-reads
 returns-in_err-kind-clause-reads c r range e =
-    let at = numbers_of r range (λ one two three more. c.in_ok-turn.rest.now ≡ more) _ e (λ one two three more a b d is. (c.in_ok-turn.ensures one two three more a b d is).3) in
+    let at =
+    numbers_of r range (λ one two three more. c.in_ok-turn.rest.now ≡ more) _ e
+    (λ one two three more a b d is. (c.in_ok-turn.ensures one two three more a b d is).3) in
     absurd (job_of r range (λ _ _ _ _. ⊥) _ at c.in_err-kind.ensures)
 
 pub returns-in_err-number-clause-reads : goal.returns-in_err-number-clause-reads

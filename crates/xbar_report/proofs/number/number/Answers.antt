@@ -1,9 +1,5 @@
-use Rattle.std.proofs.Common.{◌∙◌, ap}
-use Rattle.std.specs.Prelude.{IsUtf8}
-use Rattle.std.specs.Result.{result_ok}
-use Rattle.std.proofs.lemmas.Fmt.{IsAscii-decimal, parse-decimal}
-use Rattle.std.proofs.lemmas.Str.{IsUtf8-from_ascii}
-use Rattle.std.specs.Prelude.{decimal}
+use Rattle.std.proofs.Common.{◌∙◌, ap, IsUtf8, decimal}
+use Rattle.std.{specs.Result.result_ok, proofs.lemmas.{Fmt.{IsAscii-decimal, parse-decimal}, Str.IsUtf8-from_ascii}}
 use Rattle.xbar_report.proofs.number.number.Goals as goal
 
 pub returns-in-Err : goal.returns-in-Err

@@ -1,6 +1,5 @@
 use Rattle.std.proofs.Common.{length}
-use Rattle.xbar_report.specs.Draft.{draft_lines}
-use Rattle.xbar_report.proofs.Stray.{IsReadSoFar}
+use Rattle.xbar_report.{specs.Draft.draft_lines, proofs.Stray.IsReadSoFar}
 use Rattle.xbar_report.proofs.reading.read_lines.Given as goal
 
 abbrev pub invariant-loop-line : goal.invariant-loop-line

@@ -1,5 +1,4 @@
-use Rattle.std.proofs.Common.{◌≡◌, ◌++◌, take}
-use Rattle.std.specs.Prelude.{flat_map, string_bytes}
+use Rattle.std.proofs.Common.{◌≡◌, ◌++◌, take, flat_map, string_bytes}
 use Rattle.xbar_report.specs.Text.{record_line}
 use Rattle.xbar_report.proofs.report_text.add_records.Given as goal
 

@@ -1,6 +1,5 @@
 use Rattle.std.proofs.Common.{◌≡◌, ◌<◌, ◌+◌, ◌++◌, ◌∷◌, [], List, ℕ, suc, length, take, drop, get_or, sym, ap, ◌∙◌, take-append-drop}
-use Rattle.std.proofs.lemmas.List.{take_more, drop_more}
-use Rattle.xbar_equip.specs.TextLines.{Lacks, IsWholeLine}
+use Rattle.{std.proofs.lemmas.List.{take_more, drop_more}, xbar_equip.specs.TextLines.{Lacks, IsWholeLine}}
 use Rattle.xbar_report.proofs.Splits.{cut_at_place, lacks_none}
 use Rattle.xbar_report.proofs.split.first_line.Goals as goal
 
@@ -17,4 +16,5 @@ returns-in_err-place-clause-none c = rw c.from_residual.ensures (lacks_none 10 c
 pub returns-clause-line : goal.returns-clause-line
 returns-clause-line c =
     let h = cut_at_place 10 c.args.text.now c.in_ok-place.place (sym c.in_ok-place.ensures) in
-    rw (c.split_at.ensures.front, c.split_at.ensures.back) (whole c.in_ok-place.place c.args.text.now h, sym (take-append-drop (c.in_ok-place.place + 1) c.args.text.now))
+    rw (c.split_at.ensures.front, c.split_at.ensures.back)
+    (whole c.in_ok-place.place c.args.text.now h, sym (take-append-drop (c.in_ok-place.place + 1) c.args.text.now))

@@ -1,11 +1,11 @@
 use Rattle.std.proofs.Common.{◌≡◌, ◌++◌, ◌∷◌, List, ℕ, suc, take, drop, sym, ◌∙◌, subst, take-append-drop}
-use Rattle.xbar_equip.specs.TextLines.{Lacks}
-use Rattle.xbar_report.proofs.Splits.{cut_at_place, lacks_none, cut_once, has_byte}
+use Rattle.{xbar_equip.specs.TextLines.Lacks, xbar_report.proofs.Splits.{cut_at_place, lacks_none, cut_once, has_byte}}
 use Rattle.xbar_report.proofs.split.split_at_byte.Goals as goal
 
 pub returns-in_err-place_of-clause-first : goal.returns-in_err-place_of-clause-first
 returns-in_err-place_of-clause-first c front rest lacks e =
-    absurd (has_byte c.args.end front rest (subst (λ (xs : List ℕ). Lacks c.args.end xs) e (lacks_none c.args.end c.args.text.now (sym c.in_err-place_of.ensures))))
+    absurd (has_byte c.args.end front rest (subst (λ (xs : List ℕ). Lacks c.args.end xs) e
+    (lacks_none c.args.end c.args.text.now (sym c.in_err-place_of.ensures))))
 
 pub returns-in_err-place_of-clause-none : goal.returns-in_err-place_of-clause-none
 returns-in_err-place_of-clause-none c =
@@ -29,6 +29,7 @@ returns-clause-parts c =
 pub returns-clause-first : goal.returns-clause-first
 returns-clause-first c front rest lacks e =
     let h = cut_at_place c.args.end c.args.text.now c.in_ok-place_of.field-0 (sym c.in_ok-place_of.ensures) in
-    let p = parts c.args.end c.in_ok-place_of.field-0 c.args.text.now c.split_at.result.0.now c.split_at.result.1.now c.in_ok-_end.rest.now c.in_ok-_end._end.now
+    let p =
+    parts c.args.end c.in_ok-place_of.field-0 c.args.text.now c.split_at.result.0.now c.split_at.result.1.now c.in_ok-_end.rest.now c.in_ok-_end._end.now
     (h.1, h.2) c.split_at.ensures.front c.split_at.ensures.back c.in_ok-_end.ensures.cases.0 in
     cut_once c.args.end c.split_at.result.0.now c.in_ok-_end.rest.now front rest p.0 lacks (sym p.1 ∙ e)

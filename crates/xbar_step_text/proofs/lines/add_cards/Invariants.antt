@@ -1,5 +1,4 @@
-use Rattle.std.proofs.Common.{◌≡◌, ◌++◌, take}
-use Rattle.std.specs.Prelude.{string_bytes}
+use Rattle.std.proofs.Common.{◌≡◌, ◌++◌, take, string_bytes}
 use Rattle.xbar_step_text.specs.Lines.{card_lines}
 use Rattle.xbar_step_text.proofs.lines.add_cards.Given as goal
 

@@ -1,8 +1,6 @@
-use Rattle.std.proofs.Common.{[], ◌∷◌, ◌∙◌, refl}
-use Rattle.std.specs.Prelude.{codes, decimal, string_bytes}
-use Rattle.xbar_jobs.specs.OnWords.{step_word}
-use Rattle.xbar_step_text.specs.Objects.{act_name, ended_value, found_value, holder_value, preferred_value, step_object, turn_value}
-use Rattle.xbar_step_text.proofs.Added.{has_more, has_none, has_one}
+use Rattle.std.proofs.Common.{[], ◌∷◌, ◌∙◌, refl, codes, decimal, string_bytes}
+use Rattle.{xbar_jobs.specs.OnWords.step_word, xbar_step_text.specs.Objects.{act_name, ended_value, found_value, holder_value, preferred_value, step_object}}
+use Rattle.xbar_step_text.{specs.Objects.turn_value, proofs.Added.{has_more, has_none, has_one}}
 use Rattle.xbar_step_text.proofs.object.add_object.Goals as goal
 
 pub returns : goal.returns
@@ -11,8 +9,10 @@ returns c =
     let first = string_bytes c.args.text.now in
     let observed = c.args.observed.now in
     let begun =
-    codes "{\"event\":\"step\",\"step\":" ∷ decimal c.args.number ∷ codes ",\"marker\":" ∷ decimal c.args.marker ∷ codes ",\"act\":\"" ∷ act_name observed.step ∷ codes "\",\"object\":" ∷ [] in
-    let found = codes ",\"word\":" ∷ decimal (step_word observed.step) ∷ codes ",\"found\":" ∷ found_value observed.found observed.step ∷ codes ",\"items\":" ∷ [] in
+    codes "{\"event\":\"step\",\"step\":" ∷ decimal c.args.number ∷ codes ",\"marker\":" ∷ decimal c.args.marker ∷ codes ",\"act\":\"" ∷ act_name observed.step
+    ∷ codes "\",\"object\":" ∷ [] in
+    let found =
+    codes ",\"word\":" ∷ decimal (step_word observed.step) ∷ codes ",\"found\":" ∷ found_value observed.found observed.step ∷ codes ",\"items\":" ∷ [] in
     let denied = codes ",\"holder\":" ∷ holder_value observed.event ∷ codes ",\"preferred\":" ∷ preferred_value observed.event ∷ codes ",\"turn\":" ∷ [] in
     let turned = turn_value c.args.records.now ∷ codes ",\"record\":" ∷ [] in
     let ended = codes ",\"ended\":" ∷ ended_value observed.event ∷ codes ",\"says\":\"" ∷ [] in

@@ -1,6 +1,5 @@
 use Rattle.std.proofs.Common.{◌≡◌, refl, arith}
-use Rattle.xbar_step_text.specs.Shown.{is_shown, item_at, positions}
-use Rattle.xbar_step_text.proofs.Listed.{all_shown, begins_list, next_shown}
+use Rattle.xbar_step_text.{specs.Shown.{is_shown, item_at, positions}, proofs.Listed.{all_shown, begins_list, next_shown}}
 use Rattle.xbar_step_text.proofs.shown.add_items.Goals as goal
 
 pub loop-position-init : goal.loop-position-init

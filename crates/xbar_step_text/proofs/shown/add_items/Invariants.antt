@@ -1,5 +1,4 @@
-use Rattle.std.specs.Prelude.{string_bytes}
-use Rattle.xbar_step_text.proofs.Listed.{IsShownTo}
+use Rattle.{std.specs.Prelude.string_bytes, xbar_step_text.proofs.Listed.IsShownTo}
 use Rattle.xbar_step_text.proofs.shown.add_items.Given as goal
 
 abbrev pub invariant-loop-position : goal.invariant-loop-position

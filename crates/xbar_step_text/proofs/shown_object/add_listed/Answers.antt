@@ -1,8 +1,5 @@
-use Rattle.std.proofs.Common.{◌≡◌, [], refl, arith}
-use Rattle.std.specs.Prelude.{codes}
-use Rattle.xbar_step_text.specs.Objects.{item_object}
-use Rattle.xbar_step_text.specs.Shown.{is_shown, positions}
-use Rattle.xbar_step_text.proofs.Listed.{all_values, begins_list, one_listed}
+use Rattle.std.proofs.Common.{◌≡◌, [], refl, arith, codes}
+use Rattle.xbar_step_text.{specs.{Objects.item_object, Shown.{is_shown, positions}}, proofs.Listed.{all_values, begins_list, one_listed}}
 use Rattle.xbar_step_text.proofs.shown_object.add_listed.Goals as goal
 
 pub loop-position-init : goal.loop-position-init

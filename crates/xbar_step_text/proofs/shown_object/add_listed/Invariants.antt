@@ -1,8 +1,5 @@
-use Rattle.std.proofs.Common.{[]}
-use Rattle.std.specs.Prelude.{codes, string_bytes}
-use Rattle.xbar_step_text.specs.Objects.{item_object}
-use Rattle.xbar_step_text.specs.Shown.{is_shown}
-use Rattle.xbar_step_text.proofs.Listed.{IsListed}
+use Rattle.std.proofs.Common.{[], codes, string_bytes}
+use Rattle.xbar_step_text.{specs.{Objects.item_object, Shown.is_shown}, proofs.Listed.IsListed}
 use Rattle.xbar_step_text.proofs.shown_object.add_listed.Given as goal
 
 abbrev pub invariant-loop-position : goal.invariant-loop-position

@@ -1,5 +1,4 @@
-use Rattle.std.proofs.Common.{◌≡◌, ◌++◌, ℕ, List, subst}
-use Rattle.std.specs.Prelude.{OnOk, string_bytes}
+use Rattle.std.proofs.Common.{◌≡◌, ◌++◌, ℕ, List, subst, OnOk, string_bytes}
 use Rattle.xbar_step_text.proofs.ChangedWords.{opens}
 use Rattle.xbar_step_text.proofs.words.add_open.Goals as goal
 

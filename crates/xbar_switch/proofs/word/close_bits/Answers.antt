@@ -1,8 +1,5 @@
 use Rattle.std.proofs.Common.{◌+◌, ◌*◌}
-use Rattle.std.proofs.lemmas.Nat.{shl_whole}
-use Rattle.xbar_switch.specs.Shape.{width}
-use Rattle.xbar_switch.specs.Field.{close_bits_of}
-use Rattle.xbar_switch.proofs.Fields.{place-fits, field-within_word}
+use Rattle.{std.proofs.lemmas.Nat.shl_whole, xbar_switch.{specs.{Shape.width, Field.close_bits_of}, proofs.Fields.{place-fits, field-within_word}}}
 use Rattle.xbar_switch.proofs.word.close_bits.Goals as goal
 
 pub returns : goal.returns

@@ -1,6 +1,4 @@
-use Rattle.std.proofs.lemmas.Nat.{and_mask}
-use Rattle.xbar_switch.specs.Shape.{width}
-use Rattle.xbar_switch.specs.Field.{field_of}
+use Rattle.{std.proofs.lemmas.Nat.and_mask, xbar_switch.specs.{Shape.width, Field.field_of}}
 use Rattle.xbar_switch.proofs.word.field.Goals as goal
 
 pub returns-clause-value : goal.returns-clause-value

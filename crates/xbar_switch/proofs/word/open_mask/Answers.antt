@@ -1,8 +1,5 @@
 use Rattle.std.proofs.Common.{◌-◌, ◌*◌, ◌^◌, ◌<◌, ap, arith, pow_pos, ℕ}
-use Rattle.std.proofs.lemmas.Nat.{shl_whole}
-use Rattle.xbar_switch.specs.Shape.{width}
-use Rattle.xbar_switch.specs.Field.{open_mask_of}
-use Rattle.xbar_switch.proofs.Fields.{field-within_word}
+use Rattle.{std.proofs.lemmas.Nat.shl_whole, xbar_switch.{specs.{Shape.width, Field.open_mask_of}, proofs.Fields.field-within_word}}
 use Rattle.xbar_switch.proofs.word.open_mask.Goals as goal
 
 pub returns : goal.returns

@@ -1,5 +1,4 @@
-use Rattle.csv.specs.Records.{fields_of}
-use Rattle.xbar_traffic.proofs.FiveFields.{field_found, field_is_there}
+use Rattle.{csv.specs.Records.fields_of, xbar_traffic.proofs.FiveFields.{field_found, field_is_there}}
 use Rattle.xbar_traffic.proofs.fields.field.Goals as goal
 
 pub unwrap-requires : goal.unwrap-requires

@@ -1,6 +1,5 @@
 use Rattle.std.proofs.Common.{◌≡◌, ◌<◌, ◌^◌, ◌∙◌, arith, ap, Some}
-use Rattle.std.specs.Str.Parse.{digits_value}
-use Rattle.xbar_traffic.specs.Number.{BeginsPlainly}
+use Rattle.{std.specs.Str.Parse.digits_value, xbar_traffic.specs.Number.BeginsPlainly}
 use Rattle.xbar_traffic.proofs.Decimals.{decimal_begins_plainly, decimal_has_value, decimal_is_digits, number_of_value}
 use Rattle.xbar_traffic.proofs.number.read_number.Goals as goal
 

@@ -1,9 +1,6 @@
 use Rattle.std.proofs.Common.{◌≡◌, ◌<◌, ◌+◌, get_or, arith}
-use Rattle.std.specs.Char.{digit_value}
-use Rattle.std.specs.Int.{IsInRange}
-use Rattle.std.proofs.lemmas.Bool.Decides.{nat_tests}
-use Rattle.std.proofs.lemmas.Int.Digits.{digits_more, digits_value_more}
-use Rattle.std.proofs.lemmas.Str.Parse.{digit_at, digits_value-take-le}
+use Rattle.std.specs.{Char.digit_value, Int.IsInRange}
+use Rattle.std.proofs.lemmas.{Bool.Decides.nat_tests, Int.Digits.{digits_more, digits_value_more}, Str.Parse.{digit_at, digits_value-take-le}}
 use Rattle.xbar_traffic.proofs.number.value.Goals as goal
 
 pub returns-then-not-is_ascii_digit-clause-reads :
@@ -17,7 +14,8 @@ returns-then-number-from-clause-reads c all small =
     let ds = c.args.digits.now in
     let i = c.loop-byte.byte-index in
     let digit : digit_value (get_or ds i 0) ≡ c.from.result = grind (arith, nat_tests) in
-    absurd (omega (arith, digits_value_more 10 ds i c.loop-byte-test.true, digits_value-take-le 10 ds (i + 1) (omega arith), c.loop-byte.invariant.value, digit, small))
+    absurd (omega
+    (arith, digits_value_more 10 ds i c.loop-byte-test.true, digits_value-take-le 10 ds (i + 1) (omega arith), c.loop-byte.invariant.value, digit, small))
 
 pub loop-byte-preserved : goal.loop-byte-preserved
 loop-byte-preserved c =

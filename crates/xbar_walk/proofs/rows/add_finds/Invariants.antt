@@ -1,5 +1,4 @@
-use Rattle.std.proofs.Common.{take}
-use Rattle.std.specs.Prelude.{string_bytes}
+use Rattle.std.proofs.Common.{take, string_bytes}
 use Rattle.xbar_walk.proofs.Finding.{AreFound}
 use Rattle.xbar_walk.proofs.rows.add_finds.Given as goal
 

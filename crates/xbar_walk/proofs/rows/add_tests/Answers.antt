@@ -1,5 +1,4 @@
-use Rattle.std.proofs.Common.{◌≡◌, ◌++◌, ℕ, List, subst}
-use Rattle.std.specs.Prelude.{OnOk, string_bytes}
+use Rattle.std.proofs.Common.{◌≡◌, ◌++◌, ℕ, List, subst, OnOk, string_bytes}
 use Rattle.xbar_walk.proofs.Joining.{many_text, one_text}
 use Rattle.xbar_walk.proofs.rows.add_tests.Goals as goal
 

@@ -1,16 +1,13 @@
 use Rattle.std.proofs.Common.{sym, ◌∙◌, ap}
-use Rattle.xbar_moves.specs.Exchange.{Exchange, OfPlan}
-use Rattle.xbar_moves.specs.Moves.{given_at}
-use Rattle.xbar_moves.proofs.Backing.{back_rests}
-use Rattle.xbar_walk.specs.Walks.{walk_of_give_back}
-use Rattle.xbar_walk.proofs.Observing.{stays_same}
-use Rattle.xbar_walk.proofs.Settlings.{anew_backs, anew_within, gave_back, given_none, sees_back}
+use Rattle.{xbar_moves.{specs.{Exchange.{Exchange, OfPlan}, Moves.given_at}, proofs.Backing.back_rests}, xbar_walk.specs.Walks.walk_of_give_back}
+use Rattle.xbar_walk.proofs.{Observing.stays_same, Settlings.{restarted_backs, restarted_within, gave_back, given_none, sees_back}}
 use Rattle.xbar_walk.proofs.settling.give_back.Goals as goal
 
 pub returns-in_default-clause-office : goal.returns-in_default-clause-office
 returns-in_default-clause-office g c =
     let o = c.args.office.now in
-    ap (λ (x : Exchange). record o { exchange = x }) (sym (back_rests o.plan o.exchange c.args.marker (λ gives. c.in_default.not-Given (c.given.ensures ∙ gives))))
+    ap (λ (x : Exchange). record o { exchange = x })
+    (sym (back_rests o.plan o.exchange c.args.marker (λ gives. c.in_default.not-Given (c.given.ensures ∙ gives))))
 
 pub returns-in_default-clause-observed : goal.returns-in_default-clause-observed
 returns-in_default-clause-observed g c =
@@ -18,15 +15,17 @@ returns-in_default-clause-observed g c =
     stays_same g.O.Observer.Describes c.args.office.now _ (walk_of_give_back k)
     (λ w is. given_none k w (λ gives. c.in_default.not-Given (c.given.ensures ∙ ap (λ (o : OfPlan). given_at o.exchange k) (sym is) ∙ gives)))
 
-pub give_up-requires-clause-within : goal.give_up-requires-clause-within
-give_up-requires-clause-within g c = anew_within c.args.office.now c.restart.new.self c.args.marker (sym c.in-Given.ensures) c.restart.ensures c.requires
+pub free_all-requires-clause-within : goal.free_all-requires-clause-within
+free_all-requires-clause-within g c = restarted_within c.args.office.now c.restart.new.self c.args.marker (sym c.in-Given.ensures) c.restart.ensures c.requires
 
-pub give_up-requires-clause-backs : goal.give_up-requires-clause-backs
-give_up-requires-clause-backs g c = anew_backs c.args.office.now c.restart.new.self c.args.marker (sym c.in-Given.ensures) c.restart.ensures
+pub free_all-requires-clause-backs : goal.free_all-requires-clause-backs
+free_all-requires-clause-backs g c = restarted_backs c.args.office.now c.restart.new.self c.args.marker (sym c.in-Given.ensures) c.restart.ensures
 
 pub returns-clause-office : goal.returns-clause-office
-returns-clause-office g c = gave_back c.args.office.now c.restart.new.self c.args.marker (sym c.in-Given.ensures) c.restart.ensures _ c.in_ok-give_up.ensures.office
+returns-clause-office g c =
+    gave_back c.args.office.now c.restart.new.self c.args.marker (sym c.in-Given.ensures) c.restart.ensures _ c.in_ok-free_all.ensures.office
 
 pub returns-clause-observed : goal.returns-clause-observed
 returns-clause-observed g c =
-    sees_back c.args.office.now c.restart.new.self c.args.marker (sym c.in-Given.ensures) c.restart.ensures g.O.Observer.Describes _ _ _ c.in_ok-give_up.ensures.observed
+    sees_back c.args.office.now c.restart.new.self c.args.marker (sym c.in-Given.ensures) c.restart.ensures g.O.Observer.Describes _ _ _
+    c.in_ok-free_all.ensures.observed

@@ -1,8 +1,5 @@
-use Rattle.std.proofs.Common.{sym, ◌∙◌, ap, subst}
-use Rattle.std.specs.Prelude.{slice_get}
-use Rattle.xbar_core.specs.Ends.{Settles}
-use Rattle.xbar_plan.specs.Lawful.{IsLawful}
-use Rattle.xbar_moves.specs.Exchange.{OfPlan}
+use Rattle.std.proofs.Common.{sym, ◌∙◌, ap, subst, slice_get}
+use Rattle.{xbar_core.specs.Ends.Settles, xbar_plan.specs.Lawful.IsLawful, xbar_moves.specs.Exchange.OfPlan}
 use Rattle.xbar_walk.proofs.Settlings.{settled_is, settling_seen}
 use Rattle.xbar_walk.proofs.settling.settle.Goals as goal
 

@@ -1,7 +1,5 @@
-use Rattle.std.proofs.Common.{ap, ◌∙◌}
-use Rattle.std.specs.Prelude.{List, ℕ}
-use Rattle.xbar_step_text.specs.Observed.{found_by}
-use Rattle.xbar_walk.proofs.ToldSteps.{next_is, step_within, told_is}
+use Rattle.std.proofs.Common.{ap, ◌∙◌, List, ℕ}
+use Rattle.{xbar_step_text.specs.Observed.found_by, xbar_walk.proofs.ToldSteps.{next_is, step_within, told_is}}
 use Rattle.xbar_walk.proofs.walk.make_step.Goals as goal
 
 pub next_step-next-requires : goal.next_step-next-requires

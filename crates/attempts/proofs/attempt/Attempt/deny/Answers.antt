@@ -1,4 +1,4 @@
 use Rattle.attempts.proofs.attempt.Attempt.deny.Goals as goal
 
-pub forget-requires : goal.forget-requires
-forget-requires g c = search
+pub clear_readings-requires : goal.clear_readings-requires
+clear_readings-requires g c = search

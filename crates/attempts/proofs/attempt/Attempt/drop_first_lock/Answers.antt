@@ -1,7 +1,5 @@
 use Rattle.std.proofs.Common.{refl}
-use Rattle.turns.specs.Attempt.{rest_of}
-use Rattle.attempts.specs.Validity.{AttemptView}
-use Rattle.attempts.proofs.Inside.{with_seen}
+use Rattle.{turns.specs.Attempt.rest_of, attempts.{specs.Validity.AttemptView, proofs.Inside.with_seen}}
 use Rattle.attempts.proofs.attempt.Attempt.drop_first_lock.Goals as goal
 
 pub returns : goal.returns

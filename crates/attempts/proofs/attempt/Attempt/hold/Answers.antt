@@ -1,6 +1,5 @@
 use Rattle.std.proofs.Common.{[], ◌∷◌, ◌++◌, refl}
-use Rattle.attempts.specs.Validity.{AttemptView}
-use Rattle.attempts.proofs.Inside.{with_seen}
+use Rattle.attempts.{specs.Validity.AttemptView, proofs.Inside.with_seen}
 use Rattle.attempts.proofs.attempt.Attempt.hold.Goals as goal
 
 pub returns : goal.returns

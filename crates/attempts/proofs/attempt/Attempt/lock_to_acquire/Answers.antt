@@ -1,7 +1,5 @@
 use Rattle.std.proofs.Common.{ap, ◌∙◌}
-use Rattle.turns.specs.Attempt.{asked_in}
-use Rattle.turns.specs.declared.phase.Phase.TheVariants.{Requests, Seizes}
-use Rattle.attempts.specs.Validity.{AttemptView}
+use Rattle.{turns.specs.{Attempt.asked_in, declared.phase.Phase.TheVariants.{Requests, Seizes}}, attempts.specs.Validity.AttemptView}
 use Rattle.attempts.proofs.Inside.{asks_none, in_phase}
 use Rattle.attempts.proofs.attempt.Attempt.lock_to_acquire.Goals as goal
 

@@ -1,6 +1,5 @@
 use Rattle.std.proofs.Common.{subst}
-use Rattle.turns.specs.Seen.{AreReadWords}
-use Rattle.attempts.specs.Validity.{AttemptView}
+use Rattle.{turns.specs.Seen.AreReadWords, attempts.specs.Validity.AttemptView}
 use Rattle.attempts.proofs.attempt.Attempt.readings_from.Goals as goal
 
 pub returns-clause-words : goal.returns-clause-words

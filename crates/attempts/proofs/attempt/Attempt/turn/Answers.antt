@@ -1,8 +1,5 @@
-use Rattle.turns.specs.Attempt.{turn_in}
-use Rattle.turns.specs.declared.phase.Phase.TheVariants.{Operates}
 use Rattle.std.proofs.Common.{ap, ◌∙◌}
-use Rattle.attempts.specs.Validity.{AttemptView}
-use Rattle.attempts.proofs.Inside.{in_phase, no_turn}
+use Rattle.{turns.specs.{Attempt.turn_in, declared.phase.Phase.TheVariants.Operates}, attempts.{specs.Validity.AttemptView, proofs.Inside.{in_phase, no_turn}}}
 use Rattle.attempts.proofs.attempt.Attempt.turn.Goals as goal
 
 pub returns-in-Operates : goal.returns-in-Operates

@@ -1,6 +1,5 @@
 use Rattle.std.proofs.Common.{ℕ, List, subst}
-use Rattle.turns.specs.Seen.{AreReadWords}
-use Rattle.turns.specs.declared.reading.Reading.{Reading}
+use Rattle.turns.specs.{Seen.AreReadWords, declared.reading.Reading.Reading}
 use Rattle.attempts.proofs.readings.Readings.as_slice.Goals as goal
 
 pub returns-clause-words : goal.returns-clause-words

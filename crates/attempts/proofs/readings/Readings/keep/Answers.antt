@@ -1,8 +1,5 @@
 use Rattle.std.proofs.Common.{ℕ, List, subst, sym}
-use Rattle.turns.specs.Seen.{AreReadWords}
-use Rattle.turns.specs.declared.reading.Reading.{Reading}
-use Rattle.attempts.specs.Marks.{AreMarked}
-use Rattle.attempts.specs.Points.{HaveOneValue}
+use Rattle.{turns.specs.{Seen.AreReadWords, declared.reading.Reading.Reading}, attempts.specs.{Marks.AreMarked, Points.HaveOneValue}}
 use Rattle.attempts.proofs.TakenBack.{marked_first, once_first, words_first}
 use Rattle.attempts.proofs.readings.Readings.keep.Goals as goal
 

@@ -1,6 +1,5 @@
 use Rattle.std.proofs.Common.{subst}
-use Rattle.turns.specs.Seen.{AreReadWords}
-use Rattle.attempts.specs.WalkOnWords.{WalkState}
+use Rattle.{turns.specs.Seen.AreReadWords, attempts.specs.WalkOnWords.WalkState}
 use Rattle.attempts.proofs.seen.Seen.fits_words.Goals as goal
 
 pub returns : goal.returns

@@ -1,7 +1,9 @@
-use Rattle.desk_attempts.specs.Speculation.{predictions}
-use Rattle.desk_attempts.proofs.Confirming.{tests_guesses}
-use Rattle.desk_attempts.proofs.jobs.AttemptsJobs.predictions.Goals as goal
 use Rattle.std.proofs.Common.{refl}
+use Rattle.desk_attempts.{specs.Speculation.predictions, proofs.Confirming.tests_guesses}
+use Rattle.desk_attempts.proofs.jobs.AttemptsJobs.predictions.Goals as goal
 
 pub returns-clause-tests : goal.returns-clause-tests
-returns-clause-tests g c = tests_guesses g.S.Lock.PartialEq.eq g.S.Scripts.reply_of g.S.Scripts.effects_of (g.S.Scripts.system c.args.setting.now) (g.S.Scripts.ResumePointIsValid c.args.setting.now) g.row.READINGS g.row.HELD c.may_apply.ensures.scripts (predictions c.args.program.now) c.args.program.now c.predictions.ensures.words c.requires.valid.1 refl
+returns-clause-tests g c =
+    tests_guesses g.S.Lock.PartialEq.eq g.S.Scripts.reply_of g.S.Scripts.effects_of (g.S.Scripts.system c.args.setting.now)
+    (g.S.Scripts.ResumePointIsValid c.args.setting.now) g.row.READINGS g.row.HELD c.may_apply.ensures.scripts (predictions c.args.program.now)
+    c.args.program.now c.predictions.ensures.words c.requires.valid.1 refl

@@ -1,7 +1,5 @@
-use Rattle.std.proofs.Common.{ℕ, ◌≤◌, ◌<◌, ◌-◌, ◌^◌, ◌/◌, ◌%◌, arith, subst}
-use Rattle.std.proofs.Math.Nat.{mod-lt}
-use Rattle.std.proofs.lemmas.Nat.{mul-le}
-use Rattle.desk_attempts.specs.GroupPlaces.{group_below}
+use Rattle.std.proofs.Common.{ℕ, ◌≤◌, ◌<◌, ◌-◌, ◌^◌, ◌/◌, ◌%◌, arith, subst, mod-lt}
+use Rattle.{std.proofs.lemmas.Nat.mul-le, desk_attempts.specs.GroupPlaces.group_below}
 use Rattle.desk_attempts.proofs.on_groups.Groups.place.Goals as goal
 
 pub overflow_mul-result : goal.overflow_mul-result

@@ -1,8 +1,5 @@
-use Rattle.std.proofs.Common.{◌≡◌, ◌-◌, ◌≤◌, ℕ, List, ap, arith, drop, length, length-drop, subst, sym, ◌∙◌}
-use Rattle.std.specs.Prelude.{Option, Some}
-use Rattle.turns.specs.declared.reading.Reading.{Reading}
-use Rattle.desk_attempts.specs.Speculation.{predicted_of, predictions}
-use Rattle.desk_attempts.proofs.FirstFieldFits.{first_field_fits}
+use Rattle.std.proofs.Common.{◌≡◌, ◌-◌, ◌≤◌, ℕ, List, ap, arith, drop, length, length-drop, subst, sym, ◌∙◌, Option, Some}
+use Rattle.{turns.specs.declared.reading.Reading.Reading, desk_attempts.{specs.Speculation.{predicted_of, predictions}, proofs.FirstFieldFits.first_field_fits}}
 use Rattle.desk_attempts.proofs.speculation.Speculation.confirm.Goals as goal
 
 pub count_steps-requires : goal.count_steps-requires

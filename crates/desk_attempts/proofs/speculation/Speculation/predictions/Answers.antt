@@ -1,6 +1,5 @@
 use Rattle.std.proofs.Common.{ap, subst}
-use Rattle.turns.specs.Seen.{AreReadWords}
-use Rattle.desk_attempts.proofs.FirstFieldFits.{first_field_fits}
+use Rattle.{turns.specs.Seen.AreReadWords, desk_attempts.proofs.FirstFieldFits.first_field_fits}
 use Rattle.desk_attempts.proofs.speculation.Speculation.predictions.Goals as goal
 
 pub readings_from-requires : goal.readings_from-requires

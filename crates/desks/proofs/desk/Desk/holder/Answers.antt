@@ -1,10 +1,5 @@
-use Rattle.std.proofs.Common.{◌≡◌, ℕ, ap, subst, sym, ◌∙◌}
-use Rattle.std.specs.Prelude.{Option}
-use Rattle.turns.specs.Sharing.{held_by}
-use Rattle.turns.specs.System.{system_of}
-use Rattle.desks.specs.Desks.{IsSeated, actor_of}
-use Rattle.desks.specs.Holders.{WasHeldBy}
-use Rattle.desks.proofs.HeldLocks.{was_held}
+use Rattle.std.proofs.Common.{◌≡◌, ℕ, ap, subst, sym, ◌∙◌, Option}
+use Rattle.{turns.specs.{Sharing.held_by, System.system_of}, desks.{specs.{Desks.{IsSeated, actor_of}, Holders.WasHeldBy}, proofs.HeldLocks.was_held}}
 use Rattle.desks.proofs.desk.Desk.holder.Goals as goal
 
 pub returns-clause-held : goal.returns-clause-held
@@ -21,5 +16,6 @@ returns-clause-held g c =
     let holder = held_by O.sharing loaded.result in
     let mine = subst (λ d. WasHeldBy O count d.number d.actor d.seen lock holder) c.self.view_is held in
     let room : count ≡ c.args.room.now.count = ap (λ r. r.count) c.room.view_is in
-    subst (λ (o : Option ℕ). WasHeldBy O c.args.room.now.count c.args.self.now.number c.args.self.now.actor c.args.self.now.seen lock o) (sym c.holder_in.ensures)
+    subst (λ (o : Option ℕ). WasHeldBy O c.args.room.now.count c.args.self.now.number c.args.self.now.actor c.args.self.now.seen lock o)
+    (sym c.holder_in.ensures)
     (subst (λ (n : ℕ). WasHeldBy O n c.args.self.now.number c.args.self.now.actor c.args.self.now.seen lock holder) room mine)

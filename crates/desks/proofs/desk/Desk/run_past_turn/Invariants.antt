@@ -1,8 +1,5 @@
 use Rattle.std.proofs.Common.{◌≡◌, ◌-◌}
-use Rattle.turns.specs.System.{system_of}
-use Rattle.desks.specs.Running.{HasRun}
-use Rattle.desks.specs.Views.{IsDeskOf}
-use Rattle.desks.specs.Watching.{watched_more}
+use Rattle.{turns.specs.System.system_of, desks.specs.{Running.HasRun, Views.IsDeskOf, Watching.watched_more}}
 use Rattle.desks.proofs.desk.Desk.run_past_turn.Given as goal
 
 abbrev pub invariant-loop-made : goal.invariant-loop-made

@@ -1,8 +1,5 @@
 use Rattle.std.proofs.Common.{◌<◌, ◌∙◌, ap, subst, sym}
-use Rattle.crossbeam_channel.specs.Err.{IsFull}
-use Rattle.fair_queue.specs.declared.rule.Hand.{Hand}
-use Rattle.fair_queue.specs.Tickets.{TicketView}
-use Rattle.fair_queue.proofs.Moves.{puts, learns, full_length}
+use Rattle.{crossbeam_channel.specs.Err.IsFull, fair_queue.{specs.{declared.rule.Hand.Hand, Tickets.TicketView}, proofs.Moves.{puts, learns, full_length}}}
 use Rattle.fair_queue.proofs.inlet.Inlet.put.Goals as goal
 
 pub try_send_as-requires-clause-rule : goal.try_send_as-requires-clause-rule

@@ -1,5 +1,4 @@
-use Rattle.fair_queue.proofs.Joining.{parts_inside}
-use Rattle.fair_queue.proofs.Moves.{takes, learns}
+use Rattle.fair_queue.proofs.{Joining.parts_inside, Moves.{takes, learns}}
 use Rattle.fair_queue.proofs.outlet.Outlet.take.Goals as goal
 
 pub recv_as-requires-clause-rule : goal.recv_as-requires-clause-rule

@@ -1,5 +1,4 @@
-use Rattle.fair_queue.proofs.Joining.{parts_inside}
-use Rattle.fair_queue.proofs.Moves.{takes, learns}
+use Rattle.fair_queue.proofs.{Joining.parts_inside, Moves.{takes, learns}}
 use Rattle.fair_queue.proofs.outlet.Outlet.try_take.Goals as goal
 
 pub try_recv_as-requires-clause-rule : goal.try_recv_as-requires-clause-rule

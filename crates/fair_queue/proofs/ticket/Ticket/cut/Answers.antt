@@ -1,5 +1,4 @@
-use Rattle.fair_queue.proofs.Joining.{parts_inside}
-use Rattle.fair_queue.proofs.Moves.{forks}
+use Rattle.fair_queue.proofs.{Joining.parts_inside, Moves.forks}
 use Rattle.fair_queue.proofs.ticket.Ticket.cut.Goals as goal
 
 pub another-pass-requires-clause-rule : goal.another-pass-requires-clause-rule

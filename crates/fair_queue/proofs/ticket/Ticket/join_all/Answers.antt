@@ -1,8 +1,5 @@
-use Rattle.std.proofs.Common.{[], ◌∷◌, ◌++◌, ap, sym, ◌∙◌}
-use Rattle.std.proofs.lemmas.List.{append_assoc}
-use Rattle.std.proofs.lemmas.List.Elements.{All-tail}
-use Rattle.fair_queue.specs.Tickets.{IsTicketOf, TicketView, ticket_of_both}
-use Rattle.fair_queue.proofs.Joining.{joined_again}
+use Rattle.std.proofs.Common.{[], ◌∷◌, ◌++◌, ap, sym, ◌∙◌, append_assoc}
+use Rattle.{std.proofs.lemmas.List.Elements.All-tail, fair_queue.{specs.Tickets.{IsTicketOf, TicketView, ticket_of_both}, proofs.Joining.joined_again}}
 use Rattle.fair_queue.proofs.ticket.Ticket.join_all.Goals as goal
 
 pub loop-other-preserved : goal.loop-other-preserved

@@ -1,5 +1,4 @@
-use Rattle.std.proofs.Common.{◌≡◌}
-use Rattle.std.specs.Prelude.{vec_len}
+use Rattle.std.proofs.Common.{◌≡◌, vec_len}
 use Rattle.marker_tests.proofs.calls.overlapping.gates.Given as goal
 
 abbrev pub invariant-loop-meeting : goal.invariant-loop-meeting

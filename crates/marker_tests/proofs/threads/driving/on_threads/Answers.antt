@@ -1,10 +1,7 @@
-use Rattle.std.proofs.Common.{refl, subst}
-use Rattle.std.proofs.lemmas.Option.{slice_get_read}
-use Rattle.std.specs.Prelude.{IfSome, Option, Some}
-use denote.Param.Send as send
+use Rattle.std.proofs.Common.{refl, subst, IfSome, Option}
+use Rattle.{std.proofs.lemmas.Option.slice_get_read, xbar_fabric.{specs.Views.{DeskView, IsDeskOf}, proofs.Sent.desk_send}}
 use denote.Param.Send.{sendable}
-use Rattle.xbar_fabric.specs.Views.{DeskView, IsDeskOf}
-use Rattle.xbar_fabric.proofs.Sent.{desk_send}
+use denote.Param.Send as send
 use Rattle.xbar_fabric.specs.contracts.desk.Desk as desk
 use Rattle.marker_tests.specs.contracts.threads.driving.AtWork as work
 use Rattle.marker_tests.proofs.threads.driving.AtWork.TheSendSync as derived

@@ -1,5 +1,4 @@
-use Rattle.std.proofs.Common.{suc, arith, subst}
-use Rattle.std.specs.Prelude.{All}
+use Rattle.std.proofs.Common.{suc, arith, subst, All}
 use Rattle.xbar_fabric.specs.Views.{IsDeskOf}
 use Rattle.marker_tests.proofs.threads.ending.part.Goals as goal
 

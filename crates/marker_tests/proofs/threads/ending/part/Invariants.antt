@@ -1,8 +1,5 @@
-use Rattle.std.proofs.Common.{◌≡◌, ◌+◌}
-use Rattle.std.specs.Prelude.{All, vec_len}
-use Rattle.std.specs.Vec.Iter.{into_iter_items, into_iter_len}
-use Rattle.xbar_fabric.specs.Views.{IsDeskOf}
-use Rattle.marker_tests.specs.Shifts.{AreInOrder}
+use Rattle.std.proofs.Common.{◌≡◌, ◌+◌, All, vec_len}
+use Rattle.{std.specs.Vec.Iter.{into_iter_items, into_iter_len}, xbar_fabric.specs.Views.IsDeskOf, marker_tests.specs.Shifts.AreInOrder}
 use Rattle.marker_tests.proofs.threads.ending.part.Given as goal
 
 abbrev pub invariant-loop-shift : goal.invariant-loop-shift

@@ -14,4 +14,5 @@ returns-clause-done g c = λ _ number job is.
     }
 
 pub returns-clause-logged : goal.returns-clause-logged
-returns-clause-logged g c = (c.in-Some.reported, c.push_reserved.ensures.items ∙ ap (λ l. l ++ c.in-Some.reported ∷ []) c.reserve.ensures.items, c.in-Some.ensures.persisted)
+returns-clause-logged g c =
+    (c.in-Some.reported, c.push_reserved.ensures.items ∙ ap (λ l. l ++ c.in-Some.reported ∷ []) c.reserve.ensures.items, c.in-Some.ensures.persisted)

@@ -1,7 +1,5 @@
 use Rattle.std.proofs.Common.{ℕ, sym, ◌∙◌, ap}
-use Rattle.xbar_moves.specs.Exchange.{Exchange, OfPlan}
-use Rattle.xbar_moves.specs.Moves.{begun_anew, frees_left, steps}
-use Rattle.xbar_moves.proofs.Backing.{anew, back_goes, back_rests}
+use Rattle.xbar_moves.{specs.{Exchange.{Exchange, OfPlan}, Moves.{restarted_at, frees_left, steps}}, proofs.Backing.{starts_back, back_goes, back_rests}}
 use Rattle.xbar_core.proofs.exchange.Exchange.give_back.Goals as goal
 
 pub returns-in-Given-clause-back : goal.returns-in-Given-clause-back
@@ -10,12 +8,13 @@ returns-in-Given-clause-back c =
     let e = c.args.self.now.exchange in
     let k = c.args.marker in
     let gives = sym c.in-Given.ensures in
-    c.give_up.ensures
+    c.free_all.ensures
     ∙ ap (λ (o : OfPlan). record { plan = o.plan; exchange = steps o.plan k (frees_left o.exchange k) o.exchange }) c.restart.ensures
-    ∙ ap (λ (count : ℕ). record { plan = plan; exchange = steps plan k count (begun_anew plan k e) }) (anew plan e k gives).1
+    ∙ ap (λ (count : ℕ). record { plan = plan; exchange = steps plan k count (restarted_at plan k e) }) (starts_back plan e k gives).1
     ∙ ap (λ (x : Exchange). record { plan = plan; exchange = x }) (sym (back_goes plan e k gives))
 
 pub returns-in_default-clause-back : goal.returns-in_default-clause-back
 returns-in_default-clause-back c =
     let plan = c.args.self.now.plan in
-    ap (λ (x : Exchange). record { plan = plan; exchange = x }) (sym (back_rests plan c.args.self.now.exchange c.args.marker (λ gives. c.in_default.not-Given (c.given-given.ensures ∙ gives))))
+    ap (λ (x : Exchange). record { plan = plan; exchange = x })
+    (sym (back_rests plan c.args.self.now.exchange c.args.marker (λ gives. c.in_default.not-Given (c.given-given.ensures ∙ gives))))

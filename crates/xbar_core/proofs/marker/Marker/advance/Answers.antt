@@ -1,12 +1,8 @@
-use Rattle.std.proofs.Common.{slice_set, sym, ◌∙◌, ap}
-use Rattle.std.specs.Prelude.{Option}
-use Rattle.xbar_core.specs.Standing.{work_of}
+use Rattle.std.proofs.Common.{slice_set, sym, ◌∙◌, ap, Option}
+use Rattle.xbar_core.{specs.{Standing.work_of, declared.{marker.Marker.TheInside.Inside, work.Work.Work}}, proofs.MarkerSteps.{step_goes, step_rests}}
 use Rattle.xbar_moves.specs.Exchange.{Exchange, Marker, is_idle}
-use Rattle.xbar_core.specs.declared.marker.Marker.TheInside.{Inside}
-use Rattle.xbar_core.specs.declared.work.Work.{Work}
-use Rattle.xbar_core.proofs.MarkerSteps.{step_goes, step_rests}
-use Rattle.xbar_core.proofs.marker.Marker.advance.Goals as goal
 use Rattle.xbar_core.proofs.marker.Marker.advance.Goals.{in-None, in-Some, in-Some-2}
+use Rattle.xbar_core.proofs.marker.Marker.advance.Goals as goal
 
 pub returns-clause-step : goal.returns-clause-step
 returns-clause-step c = λ markers there.
@@ -17,7 +13,8 @@ returns-clause-step c = λ markers there.
     elim c.match-self.branch [
       | in-None w ↦
           (λ i. record { words = w.words-is i; markers = slice_set markers k (seen c.match-self.self-inside); records = (w.records-is i).items })
-          ∙ step_rests c.args.plan.now e k c.args.self.now there _ (was ∙ ap (λ (o : Option Work). is_idle (work_of o)) w.in-None.is) (ap seen w.self-inside-is ∙ c.self.view_is)
+          ∙ step_rests c.args.plan.now e k c.args.self.now there _ (was ∙ ap (λ (o : Option Work). is_idle (work_of o)) w.in-None.is)
+          (ap seen w.self-inside-is ∙ c.self.view_is)
       | in-Some w ↦
           (λ i. record { words = w.words-is i; markers = slice_set markers k (seen c.match-self.self-inside); records = (w.records-is i).items })
           ∙ step_rests c.args.plan.now e k c.args.self.now there _ (was ∙ ap (λ (o : Option Work). is_idle (work_of o)) w.in-Some.is ∙ sym w.if-is_done.ensures)
@@ -25,5 +22,6 @@ returns-clause-step c = λ markers there.
       | in-Some-2 w ↦
           (λ i. record { words = w.words-is i; markers = slice_set markers k (seen (w.self-inside-is i)); records = (w.records-is i).items })
           ∙ step_goes c.args.plan.now e k c.args.self.now there c.self.inside.kind w.in-Some.work w.step.new.self w.step.new.words w.step.new.records.items
-          (sym c.self.view_is ∙ ap (λ (o : Option Work). record { kind = c.self.inside.kind; work = work_of o }) w.in-Some.is) (sym w.if-is_done.ensures) w.step.ensures.work w.step.ensures.words w.step.ensures.records
+          (sym c.self.view_is ∙ ap (λ (o : Option Work). record { kind = c.self.inside.kind; work = work_of o }) w.in-Some.is) (sym w.if-is_done.ensures)
+          w.step.ensures.work w.step.ensures.words w.step.ensures.records
     ]

@@ -1,13 +1,8 @@
-use Rattle.std.proofs.Common.{ℕ, slice_set, sym, ◌∙◌, ap}
-use Rattle.std.specs.Prelude.{Option}
-use Rattle.xbar_core.specs.Standing.{work_of}
-use Rattle.xbar_moves.specs.Exchange.{Exchange, Marker}
-use Rattle.xbar_moves.specs.Moves.{steps}
-use Rattle.xbar_core.specs.declared.marker.Marker.TheInside.{Inside}
-use Rattle.xbar_core.specs.declared.work.Work.{Work}
-use Rattle.xbar_core.proofs.LedSteps.{marker_led, marker_rests}
-use Rattle.xbar_core.proofs.marker.Marker.run.Goals as goal
+use Rattle.std.proofs.Common.{ℕ, slice_set, sym, ◌∙◌, ap, Option}
+use Rattle.xbar_core.{specs.{Standing.work_of, declared.{marker.Marker.TheInside.Inside, work.Work.Work}}, proofs.LedSteps.{marker_led, marker_rests}}
+use Rattle.xbar_moves.specs.{Exchange.{Exchange, Marker}, Moves.steps}
 use Rattle.xbar_core.proofs.marker.Marker.run.Goals.{in-None, in-Some}
+use Rattle.xbar_core.proofs.marker.Marker.run.Goals as goal
 
 pub returns-clause-steps : goal.returns-clause-steps
 returns-clause-steps c = λ markers records there.
@@ -21,6 +16,9 @@ returns-clause-steps c = λ markers records there.
           ∙ ap (λ (n : ℕ). steps c.args.plan.now k n e) (sym w.result-is)
       | in-Some w ↦
           (λ i. record { words = w.words-is i; markers = slice_set markers k (seen (w.self-inside-is i)); records = records })
-          ∙ marker_led c.args.plan.now k e c.args.self.now c.self.inside.kind w.in-Some.work.job_no w.run.new.self.job_no w.in-Some.work.program.attempt w.run.new.self.program.attempt w.run.new.words w.run.result there (sym c.self.view_is ∙ ap (λ (o : Option Work). record { kind = c.self.inside.kind; work = work_of o }) w.in-Some.is) w.run.ensures.job w.run.ensures.steps
+          ∙ marker_led c.args.plan.now k e c.args.self.now c.self.inside.kind w.in-Some.work.job_no w.run.new.self.job_no w.in-Some.work.program.attempt
+          w.run.new.self.program.attempt w.run.new.words w.run.result there
+          (sym c.self.view_is ∙ ap (λ (o : Option Work). record { kind = c.self.inside.kind; work = work_of o }) w.in-Some.is) w.run.ensures.job
+          w.run.ensures.steps
           ∙ ap (λ (n : ℕ). steps c.args.plan.now k n e) (sym w.result-is)
     ]

@@ -1,5 +1,4 @@
-use Rattle.std.proofs.Common.{ℕ, zero, suc, ◌<◌, List, [], ◌∷◌, lit<}
-use Rattle.std.specs.Str.{IsAscii}
+use Rattle.std.proofs.Common.{ℕ, zero, suc, ◌<◌, List, [], ◌∷◌, lit<, IsAscii}
 use Rattle.xbar_equip.proofs.path.Path.text.Goals as goal
 
 -- the bytes are ASCII, as a record, from which antt finds the list

@@ -1,10 +1,7 @@
-use Rattle.std.proofs.Common.{◌≡◌, rules, None, sym, subst}
-use Rattle.std.specs.Prelude.{Option, IfSome}
-use Rattle.xbar_equip.specs.Path.{IsPath}
-use Rattle.xbar_equip.specs.declared.path.Path.{Path}
-use Rattle.xbar_jobs.proofs.EffectRanges.{leave_range}
-use Rattle.xbar_jobs.proofs.leave.Leave.add_effects.Goals as goal
+use Rattle.std.proofs.Common.{◌≡◌, rules, None, sym, subst, Option, IfSome}
+use Rattle.{xbar_equip.specs.{Path.IsPath, declared.path.Path.Path}, xbar_jobs.proofs.EffectRanges.leave_range}
 use Rattle.xbar_jobs.proofs.leave.Leave.add_effects.Goals.{in-Some, in_default}
+use Rattle.xbar_jobs.proofs.leave.Leave.add_effects.Goals as goal
 
 pub returns-clause-range : goal.returns-clause-range
 returns-clause-range c =

@@ -1,12 +1,7 @@
-use Rattle.std.proofs.Common.{◌≡◌, rules, Err, ap, subst, sym, ◌∙◌}
-use Rattle.std.specs.Prelude.{Option, Result}
+use Rattle.std.proofs.Common.{◌≡◌, rules, Err, ap, subst, sym, ◌∙◌, Option, Result}
 use Rattle.xbar_equip.specs.declared.path.Path.{Path}
-use Rattle.xbar_jobs.specs.Script.{Wanted}
-use Rattle.xbar_jobs.specs.Tracing.{ResumePointIsValid, trace}
-use Rattle.xbar_jobs.specs.declared.walk_progress.WalkProgress.{WalkProgress}
-use Rattle.xbar_jobs.proofs.CompletingRows.{known_on}
-use Rattle.xbar_jobs.proofs.WalksOnWords.{comes, grown}
-use Rattle.xbar_jobs.proofs.TracedWalks.{traced_now, traced_there}
+use Rattle.xbar_jobs.specs.{Script.Wanted, Tracing.{ResumePointIsValid, trace}, declared.walk_progress.WalkProgress.WalkProgress}
+use Rattle.xbar_jobs.proofs.{CompletingRows.known_on, WalksOnWords.{comes, grown}, TracedWalks.{traced_now, traced_there}}
 use Rattle.xbar_jobs.proofs.walk_progress.WalkProgress.trace.Goals as goal
 
 pub returns-in-Traced-clause-walk : goal.returns-in-Traced-clause-walk
@@ -20,7 +15,10 @@ returns-in_err-own c =
     let walked = ap (λ (r : Result (Option Path) Wanted). comes r c.trace.new.seen c.trace.new.words) (wanted ∙ sym c.in_err-own.was) ∙ c.trace.ensures in
     record {
       walk = walked;
-      valid_point = known_on c.args.line c.args.self.now c.args.seen.now.seen c.trace.new.seen.seen (grown (trace c.args.calling.now) c.args.seen.now c.trace.new.seen c.args.words.now c.trace.new.words c.from_residual.result walked) c.requires.valid_point;
+      valid_point =
+          known_on c.args.line c.args.self.now c.args.seen.now.seen c.trace.new.seen.seen
+          (grown (trace c.args.calling.now) c.args.seen.now c.trace.new.seen c.args.words.now c.trace.new.words c.from_residual.result walked)
+          c.requires.valid_point;
     }
 
 pub returns : goal.returns
@@ -28,5 +26,8 @@ returns c =
     let walked = ap (λ (r : Result (Option Path) Wanted). comes r c.trace.new.seen c.trace.new.words) (sym c.in_ok-own.was) ∙ c.trace.ensures in
     record {
       walk = walked;
-      valid_point = subst (λ (point : WalkProgress). ResumePointIsValid c.args.line point c.trace.new.seen.seen) (sym c.from_path.ensures) (traced_now c.args.line c.args.calling.now c.in_ok-own.own c.args.seen.now c.trace.new.seen c.args.words.now c.trace.new.words c.requires.approached walked);
+      valid_point =
+          subst (λ (point : WalkProgress). ResumePointIsValid c.args.line point c.trace.new.seen.seen) (sym c.from_path.ensures)
+          (traced_now c.args.line c.args.calling.now c.in_ok-own.own c.args.seen.now c.trace.new.seen c.args.words.now c.trace.new.words c.requires.approached
+          walked);
     }

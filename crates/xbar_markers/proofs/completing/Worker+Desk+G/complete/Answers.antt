@@ -1,20 +1,18 @@
 use Rattle.std.proofs.Common.{◌∙◌, None, ap, subst, sym, true≢false}
-use Rattle.xbar_office.specs.declared.job.Job.TheVariants.{Complete}
-use Rattle.xbar_moves.specs.Kinds.{takes}
-use Rattle.xbar_moves.specs.declared.kind.Kind.{Kind}
-use Rattle.xbar_fabric.specs.Views.{DeskView}
-use Rattle.xbar_markers.specs.Calls.{HasDialTone}
-use Rattle.xbar_markers.specs.declared.call_records.CallRecords.{CallRecords}
+use Rattle.{xbar_office.specs.declared.job.Job.TheVariants.Complete, xbar_moves.specs.{Kinds.takes, declared.kind.Kind.Kind}, xbar_fabric.specs.Views.DeskView}
+use Rattle.xbar_markers.specs.{Calls.HasDialTone, declared.call_records.CallRecords.CallRecords}
 use Rattle.xbar_markers.proofs.CompletedCalls.{completed_alone, completed_released, ready_learned}
+use Rattle.xbar_markers.proofs.completing.Worker+Desk+G.complete.Goals.{then-call+then-is_connected, else-call, else-call-via-then-call+else-is_connected}
+use Rattle.xbar_markers.proofs.completing.Worker+Desk+G.complete.Goals.{else-call-via-else-call}
 use Rattle.xbar_markers.proofs.completing.Worker+Desk+G.complete.Goals as goal
-use Rattle.xbar_markers.proofs.completing.Worker+Desk+G.complete.Goals.{then-call+then-is_connected, else-call, else-call-via-then-call+else-is_connected, else-call-via-else-call}
 
 pub do_job-complete-requires-clause-ready : goal.do_job-complete-requires-clause-ready
 do_job-complete-requires-clause-ready g c = ready_learned c.args.self.now.desk c.learn.new.self c.args.fabric.now c.learn.ensures.same c.requires.ready
 
 pub do_job-complete-requires-clause-takes : goal.do_job-complete-requires-clause-takes
 do_job-complete-requires-clause-takes g c =
-    ap (λ (k : Kind). takes k (Complete c.call.inside.call.line c.call.inside.call.digits)) (ap (λ (d : DeskView). d.kind) c.learn.ensures.same ∙ c.requires.kind)
+    ap (λ (k : Kind). takes k (Complete c.call.inside.call.line c.call.inside.call.digits))
+    (ap (λ (d : DeskView). d.kind) c.learn.ensures.same ∙ c.requires.kind)
 
 pub returns : goal.returns
 returns g c =
@@ -31,10 +29,13 @@ returns g c =
     let tone = subst HasDialTone (sym c.call.view_is) c.requires.tone in
     elim c.if-call.branch [
       | then-call+then-is_connected w ↦
-          rw (w.self-is, w.release-is, sym c.call.view_is) (completed_released before learned between w.do_job.new.self.desk call c.do_job-complete.result w.do_job.result noted idle same has is_noted c.requires.kind tone done w.do_job.ensures.done
+          rw (w.self-is, w.release-is, sym c.call.view_is)
+          (completed_released before learned between w.do_job.new.self.desk call c.do_job-complete.result w.do_job.result noted idle same has is_noted
+          c.requires.kind tone done w.do_job.ensures.done
           w.if-call.true (sym w.if-is_connected.ensures))
       | else-call w ↦
-          rw (w.self-is, w.release-is, sym c.call.view_is) (completed_alone before learned between call c.do_job-complete.result noted idle same has is_noted c.requires.kind tone done (λ to.
+          rw (w.self-is, w.release-is, sym c.call.view_is)
+          (completed_alone before learned between call c.do_job-complete.result noted idle same has is_noted c.requires.kind tone done (λ to.
           elim w.else-call.branch [
             | else-call-via-then-call+else-is_connected w' ↦ true≢false (sym to.1 ∙ (sym w'.is_connected.ensures ∙ w'.if-is_connected.false))
             | else-call-via-else-call w' ↦ true≢false (sym to.0 ∙ w'.if-call.false)

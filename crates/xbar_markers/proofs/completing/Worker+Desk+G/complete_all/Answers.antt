@@ -1,6 +1,5 @@
 use Rattle.std.proofs.Common.{◌∙◌, refl}
-use Rattle.xbar_markers.proofs.HeldTickets.{may_on, tickets_on, tickets_same}
-use Rattle.xbar_markers.proofs.Serving.{served_none, served_on}
+use Rattle.xbar_markers.proofs.{HeldTickets.{may_on, tickets_on, tickets_same}, Serving.{served_none, served_on}}
 use Rattle.xbar_markers.proofs.completing.Worker+Desk+G.complete_all.Goals as goal
 
 pub loop-init : goal.loop-init
@@ -16,7 +15,8 @@ loop-init g c = record {
 
 pub returns-then-not-branch-clause-served : goal.returns-then-not-branch-clause-served
 returns-then-not-branch-clause-served g c =
-    served_on c.args.self.now.desk c.loop.self.desk c.complete_next.new.self.desk c.args.share.now c.loop.share c.complete_next.new.share c.loop.invariant.served c.in_ok-complete_next.ensures.served
+    served_on c.args.self.now.desk c.loop.self.desk c.complete_next.new.self.desk c.args.share.now c.loop.share c.complete_next.new.share
+    c.loop.invariant.served c.in_ok-complete_next.ensures.served
 
 pub loop-preserved : goal.loop-preserved
 loop-preserved g c =
@@ -28,5 +28,7 @@ loop-preserved g c =
       tickets = tickets_on inv.tickets next.tickets;
       same_kept = next.kept ∙ inv.same_kept;
       same_calls = next.calls ∙ inv.same_calls;
-      served = served_on c.args.self.now.desk c.loop.self.desk c.complete_next.new.self.desk c.args.share.now c.loop.share c.complete_next.new.share inv.served next.served;
+      served =
+          served_on c.args.self.now.desk c.loop.self.desk c.complete_next.new.self.desk c.args.share.now c.loop.share c.complete_next.new.share inv.served
+          next.served;
     }

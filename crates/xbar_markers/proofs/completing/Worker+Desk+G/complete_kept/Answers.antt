@@ -1,8 +1,6 @@
 use Rattle.std.proofs.Common.{◌∙◌, refl}
-use Rattle.xbar_markers.proofs.KeptCalls.{HasTakenKept, kept_completed, left_tone, nothing_left, served_same}
-use Rattle.xbar_markers.proofs.ServedSteps.{HasEnded}
-use Rattle.xbar_markers.proofs.Serving.{served_none, served_on}
-use Rattle.xbar_markers.proofs.Works.{kind_worked, ready_worked}
+use Rattle.xbar_markers.proofs.{KeptCalls.{HasTakenKept, kept_completed, left_tone, nothing_left, served_same}, ServedSteps.HasEnded}
+use Rattle.xbar_markers.proofs.{Serving.{served_none, served_on}, Works.{kind_worked, ready_worked}}
 use Rattle.xbar_markers.proofs.completing.Worker+Desk+G.complete_kept.Goals as goal
 
 pub loop-call-init : goal.loop-call-init
@@ -48,4 +46,5 @@ returns-clause-served g c =
     let after = record share { kept = c.pop.new.self } in
     let desk = c.loop-call.self.desk in
     served_on c.args.self.now.desk desk desk c.args.share.now share after c.loop-call.invariant.served
-    (served_same desk share after c.loop-call.invariant.ready.idle refl refl (nothing_left share.kept.items c.pop.new.self.items c.in_default.ensures.items) refl)
+    (served_same desk share after c.loop-call.invariant.ready.idle refl refl (nothing_left share.kept.items c.pop.new.self.items c.in_default.ensures.items)
+    refl)

@@ -1,5 +1,4 @@
-use Rattle.xbar_markers.proofs.HeldTickets.{may_on, tickets_on, tickets_same}
-use Rattle.xbar_markers.proofs.Serving.{served_none, served_on}
+use Rattle.xbar_markers.proofs.{HeldTickets.{may_on, tickets_on, tickets_same}, Serving.{served_none, served_on}}
 use Rattle.xbar_markers.proofs.dialling.Worker+Desk+G.dial_all.Goals as goal
 
 pub loop-init : goal.loop-init
@@ -13,7 +12,8 @@ loop-init g c = record {
 
 pub returns-then-not-branch-clause-served : goal.returns-then-not-branch-clause-served
 returns-then-not-branch-clause-served g c =
-    served_on c.args.self.now.desk c.loop.self.desk c.dial_next.new.self.desk c.args.share.now c.loop.share c.dial_next.new.share c.loop.invariant.served c.in_ok-dial_next.ensures.served
+    served_on c.args.self.now.desk c.loop.self.desk c.dial_next.new.self.desk c.args.share.now c.loop.share c.dial_next.new.share c.loop.invariant.served
+    c.in_ok-dial_next.ensures.served
 
 pub loop-preserved : goal.loop-preserved
 loop-preserved g c =
@@ -23,5 +23,6 @@ loop-preserved g c =
       ready = next.ready;
       kind = next.kind;
       tickets = tickets_on inv.tickets next.tickets;
-      served = served_on c.args.self.now.desk c.loop.self.desk c.dial_next.new.self.desk c.args.share.now c.loop.share c.dial_next.new.share inv.served next.served;
+      served =
+          served_on c.args.self.now.desk c.loop.self.desk c.dial_next.new.self.desk c.args.share.now c.loop.share c.dial_next.new.share inv.served next.served;
     }

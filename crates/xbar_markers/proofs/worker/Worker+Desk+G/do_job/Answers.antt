@@ -1,10 +1,6 @@
-use Rattle.std.proofs.Common.{ℕ, sym, ap, subst, ◌∙◌}
-use Rattle.std.specs.Prelude.{Option}
-use Rattle.xbar_moves.specs.Exchange.{is_idle}
-use Rattle.xbar_fabric.specs.Views.{DeskView}
-use Rattle.xbar_markers.specs.Work.{HasPassed, assigned_to}
-use Rattle.xbar_markers.proofs.JobsInHand.{assigned_now, has_done, mine_at_end}
-use Rattle.xbar_markers.proofs.Passing.{none_passed, passed_both}
+use Rattle.std.proofs.Common.{ℕ, sym, ap, subst, ◌∙◌, Option}
+use Rattle.{xbar_moves.specs.Exchange.is_idle, xbar_fabric.specs.Views.DeskView, xbar_markers.specs.Work.{HasPassed, assigned_to}}
+use Rattle.xbar_markers.proofs.{JobsInHand.{assigned_now, has_done, mine_at_end}, Passing.{none_passed, passed_both}}
 use Rattle.xbar_markers.proofs.worker.Worker+Desk+G.do_job.Goals as goal
 
 pub loop-init : goal.loop-init
@@ -34,7 +30,8 @@ returns-then-is_idle-clause-passed g c =
     let start = assigned_to c.args.self.now.desk c.args.job_no c.args.job in
     let after = c.go_on-answer.new.self.desk in
     let was : Option ℕ = c.args.self.now.gate in
-    subst (λ (passed : Option ℕ). HasPassed (assigned_to c.args.self.now.desk c.args.job_no c.args.job) c.go_on-answer.new.self.desk c.args.self.now.gate passed) (sym c.finish.ensures)
+    subst (λ (passed : Option ℕ). HasPassed (assigned_to c.args.self.now.desk c.args.job_no c.args.job) c.go_on-answer.new.self.desk c.args.self.now.gate
+    passed) (sym c.finish.ensures)
     (passed_both start c.loop.self.desk after was c.loop.self.gate c.go_on-answer.new.self.gate c.loop.invariant.passed c.go_on-answer.ensures.passed)
 
 pub loop-preserved : goal.loop-preserved
@@ -45,7 +42,9 @@ loop-preserved g c =
     record {
       doing = on.doing start c.args.job_no c.args.job inv.doing;
       busy = sym c.is_idle.ensures ∙ c.if-is_idle.false;
-      passed = passed_both (assigned_to start c.args.job_no c.args.job) c.loop.self.desk c.go_on-answer.new.self.desk c.args.self.now.gate c.loop.self.gate c.go_on-answer.new.self.gate inv.passed on.passed;
+      passed =
+          passed_both (assigned_to start c.args.job_no c.args.job) c.loop.self.desk c.go_on-answer.new.self.desk c.args.self.now.gate c.loop.self.gate
+          c.go_on-answer.new.self.gate inv.passed on.passed;
     }
 
 pub loop-preserved-then-is_refusal : goal.loop-preserved-then-is_refusal
@@ -56,5 +55,7 @@ loop-preserved-then-is_refusal g c =
     record {
       doing = on.doing start c.args.job_no c.args.job inv.doing;
       busy = sym c.is_idle.ensures ∙ c.if-is_idle.false;
-      passed = passed_both (assigned_to start c.args.job_no c.args.job) c.loop.self.desk c.go_on-answer.new.self.desk c.args.self.now.gate c.loop.self.gate c.go_on-answer.new.self.gate inv.passed on.passed;
+      passed =
+          passed_both (assigned_to start c.args.job_no c.args.job) c.loop.self.desk c.go_on-answer.new.self.desk c.args.self.now.gate c.loop.self.gate
+          c.go_on-answer.new.self.gate inv.passed on.passed;
     }

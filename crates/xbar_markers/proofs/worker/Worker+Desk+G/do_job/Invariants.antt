@@ -1,6 +1,5 @@
 use Rattle.std.proofs.Common.{◌≡◌, false}
-use Rattle.xbar_moves.specs.Exchange.{is_idle}
-use Rattle.xbar_markers.specs.Work.{HasPassed, IsDoing, assigned_to}
+use Rattle.{xbar_moves.specs.Exchange.is_idle, xbar_markers.specs.Work.{HasPassed, IsDoing, assigned_to}}
 use Rattle.xbar_markers.proofs.worker.Worker+Desk+G.do_job.Given as goal
 
 abbrev pub invariant-loop : goal.invariant-loop

@@ -1,6 +1,5 @@
 use Rattle.std.proofs.Common.{ℕ, zero, suc, ◌+◌, refl, ap, ◌∙◌}
-use Rattle.desks.specs.Watching.{watched_more}
-use Rattle.xbar_markers.proofs.JobsInHand.{advanced_on, ended_after, one_step, run_made, runs_on, steps_both, watched_both}
+use Rattle.{desks.specs.Watching.watched_more, xbar_markers.proofs.JobsInHand.{advanced_on, ended_after, one_step, run_made, runs_on, steps_both, watched_both}}
 use Rattle.xbar_markers.proofs.worker.Worker+Desk+G.go_on.Goals as goal
 
 pub returns-then-not-matches-clause-doing : goal.returns-then-not-matches-clause-doing

@@ -1,5 +1,4 @@
-use Rattle.std.proofs.Common.{arith, length, ap}
-use Rattle.std.proofs.lemmas.List.{length-take}
+use Rattle.std.proofs.Common.{arith, length, ap, length-take}
 use Rattle.xbar_office.proofs.cards.Cards.copy.Goals as goal
 
 pub push-requires : goal.push-requires

@@ -1,7 +1,5 @@
-use Rattle.std.proofs.Common.{rules, ◌≡◌, ◌<◌, length, true, ◌∙◌, arith}
-use Rattle.std.proofs.lemmas.List.{length-set}
-use Rattle.xbar_plan.specs.Numbered.{link_number}
-use Rattle.xbar_plan.proofs.MarkedLinks.{marks-more, all-marked}
+use Rattle.std.proofs.Common.{rules, ◌≡◌, ◌<◌, length, true, ◌∙◌, arith, length-set}
+use Rattle.xbar_plan.{specs.Numbered.link_number, proofs.MarkedLinks.{marks-more, all-marked}}
 use Rattle.xbar_plan.proofs.directory.faults.marked_links.Goals as goal
 
 pub loop-link-init : goal.loop-link-init
@@ -15,7 +13,9 @@ loop-link-preserved c =
     let there : link_number c.link-item.result < length c.loop-link.marks.items = omega (arith, number, range, size) in
     rw number (record {
       size = length-set c.loop-link.marks.items (link_number c.link-item.result) true ∙ size;
-      marked = marks-more c.loop-link.marks.items c.args.faults.now c.loop-link.link-index c.link-item.result c.loop-link-test.true c.link-item.is c.link_number.ensures.link there c.loop-link.invariant.marked;
+      marked =
+          marks-more c.loop-link.marks.items c.args.faults.now c.loop-link.link-index c.link-item.result c.loop-link-test.true c.link-item.is
+          c.link_number.ensures.link there c.loop-link.invariant.marked;
     })
 
 pub returns : goal.returns

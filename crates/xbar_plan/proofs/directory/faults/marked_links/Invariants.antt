@@ -1,7 +1,5 @@
 use Rattle.std.proofs.Common.{◌≡◌, false, length, take, get_or}
-use Rattle.std.specs.List.{list_any}
-use Rattle.xbar_equip.specs.Link.{Link, IsLink, link_eq}
-use Rattle.xbar_plan.specs.Numbered.{link_number}
+use Rattle.{std.specs.List.list_any, xbar_equip.specs.Link.{Link, IsLink, link_eq}, xbar_plan.specs.Numbered.link_number}
 use Rattle.xbar_plan.proofs.directory.faults.marked_links.Given as goal
 
 -- the links so far are marked

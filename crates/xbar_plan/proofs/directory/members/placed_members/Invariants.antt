@@ -1,8 +1,5 @@
-use Rattle.std.proofs.Common.{◌≡◌, length, take, get_or}
-use Rattle.std.specs.Prelude.{None}
-use Rattle.xbar_equip.specs.Ten.{TrunkPlace, IsTrunkPlace}
-use Rattle.xbar_plan.specs.Numbered.{place_number}
-use Rattle.xbar_plan.proofs.PlacedMembers.{among_groups}
+use Rattle.std.proofs.Common.{◌≡◌, length, take, get_or, None}
+use Rattle.{xbar_equip.specs.Ten.{TrunkPlace, IsTrunkPlace}, xbar_plan.{specs.Numbered.place_number, proofs.PlacedMembers.among_groups}}
 use Rattle.xbar_plan.proofs.directory.members.placed_members.Given as goal
 
 -- the members of the groups so far are placed

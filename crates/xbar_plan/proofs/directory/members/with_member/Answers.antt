@@ -7,4 +7,5 @@ returns-in_default c =
 
 pub returns : goal.returns
 returns c =
-    put-pair c.args.members.items c.with_place-members.result.items c.with_place.result.items c.args.group c.args.index c.args.member c.in-Some.second c.in-Some.is c.with_place-members.ensures c.with_place.ensures
+    put-pair c.args.members.items c.with_place-members.result.items c.with_place.result.items c.args.group c.args.index c.args.member c.in-Some.second
+    c.in-Some.is c.with_place-members.ensures c.with_place.ensures

@@ -6,5 +6,6 @@ loop-index-init c = no_members-placed c.args.members.items c.args.group c.requir
 
 pub loop-index-preserved : goal.loop-index-preserved
 loop-index-preserved c =
-    more_members-placed c.args.members.items c.loop-index.members.items c.with_member-members.result.items c.args.group c.loop-index.index c.args.own.now c.index-own-index.result
+    more_members-placed c.args.members.items c.loop-index.members.items c.with_member-members.result.items c.args.group c.loop-index.index c.args.own.now
+    c.index-own-index.result
     c.loop-index-test.true c.index-own-index.is c.loop-index.invariant c.with_member-members.ensures

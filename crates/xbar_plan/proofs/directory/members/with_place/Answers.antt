@@ -1,8 +1,5 @@
-use Rattle.std.proofs.Common.{rules, ◌≡◌, ◌<◌, true, false, length, get_or, sym, ◌∙◌, ap, arith}
-use Rattle.std.specs.Prelude.{None, is_some}
-use Rattle.std.proofs.lemmas.List.{get_or_read}
-use Rattle.xbar_plan.specs.Numbered.{place_number}
-use Rattle.xbar_plan.proofs.PlacedMembers.{put-free, put-taken}
+use Rattle.std.proofs.Common.{rules, ◌≡◌, ◌<◌, true, false, length, get_or, sym, ◌∙◌, ap, arith, None, is_some}
+use Rattle.{std.proofs.lemmas.List.get_or_read, xbar_plan.{specs.Numbered.place_number, proofs.PlacedMembers.{put-free, put-taken}}}
 use Rattle.xbar_plan.proofs.directory.members.with_place.Goals as goal
 
 pub returns-then-is_some : goal.returns-then-is_some

@@ -1,7 +1,5 @@
-use Rattle.std.proofs.Common.{◌≡◌, true, take}
-use Rattle.std.specs.Prelude.{nat_lt}
-use Rattle.std.specs.List.{list_all}
-use Rattle.xbar_equip.specs.Len.{is_line}
+use Rattle.std.proofs.Common.{◌≡◌, true, take, nat_lt}
+use Rattle.{std.specs.List.list_all, xbar_equip.specs.Len.is_line}
 use Rattle.xbar_plan.proofs.lawful.forms.state_station_ranges.Given as goal
 
 abbrev pub invariant-loop-station : goal.invariant-loop-station

@@ -1,5 +1,4 @@
-use Rattle.std.proofs.Common.{◌∙◌, ap}
-use Rattle.std.proofs.lemmas.List.{take_all}
+use Rattle.std.proofs.Common.{◌∙◌, ap, take_all}
 use Rattle.xbar_plan.specs.Lawful.{all_places}
 use Rattle.xbar_plan.proofs.lawful.places.places_of.Goals as goal
 

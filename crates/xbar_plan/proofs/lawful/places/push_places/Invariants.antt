@@ -1,5 +1,4 @@
-use Rattle.std.proofs.Common.{◌≡◌, ◌++◌, take}
-use Rattle.std.specs.Prelude.{flat_map}
+use Rattle.std.proofs.Common.{◌≡◌, ◌++◌, take, flat_map}
 use Rattle.xbar_plan.specs.Group.{places}
 use Rattle.xbar_plan.proofs.lawful.places.push_places.Given as goal
 

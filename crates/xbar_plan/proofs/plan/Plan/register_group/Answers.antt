@@ -1,9 +1,6 @@
 use Rattle.std.proofs.Common.{rules, ◌≡◌, ◌<◌, arith}
-use Rattle.std.proofs.lemmas.Option.{slice_get_within}
-use Rattle.xbar_plan.specs.Tables.{Tables, register_group as register_group_of}
-use Rattle.xbar_plan.specs.Lawful.{IsLawful}
-use Rattle.xbar_plan.proofs.LawfulPlans.{group_count-range}
-use Rattle.xbar_plan.proofs.LawfulLookups.{register_group-is}
+use Rattle.{std.proofs.lemmas.Option.slice_get_within, xbar_plan.specs.{Tables.{Tables, register_group as register_group_of}, Lawful.IsLawful}}
+use Rattle.xbar_plan.proofs.{LawfulPlans.group_count-range, LawfulLookups.register_group-is}
 use Rattle.xbar_plan.proofs.plan.Plan.register_group.Goals as goal
 
 below_16 : (plan : Tables) → IsLawful plan → register_group_of plan < 16

@@ -1,8 +1,5 @@
-use Rattle.std.proofs.Common.{rules, refl, ◌≡◌, ◌<◌, ◌≤◌, sym, ◌∙◌, ap}
-use Rattle.std.specs.Prelude.{slice_get, Some, None, option_copied}
-use Rattle.std.proofs.lemmas.Option.{slice_get_within, slice_get_read}
-use Rattle.xbar_plan.specs.Lawful.{IsLawful}
-use Rattle.xbar_plan.specs.Directory.{IsDirectoryOf}
+use Rattle.std.proofs.Common.{rules, refl, ◌≡◌, ◌<◌, ◌≤◌, sym, ◌∙◌, ap, slice_get, Some, None, option_copied}
+use Rattle.{std.proofs.lemmas.Option.{slice_get_within, slice_get_read}, xbar_plan.specs.{Lawful.IsLawful, Directory.IsDirectoryOf}}
 use Rattle.xbar_plan.proofs.LawfulDirectories.{groups-at, groups-none, groups-past, route-within}
 use Rattle.xbar_plan.proofs.plan.Plan.route.Goals as goal
 
@@ -31,6 +28,7 @@ returns-clause-route c =
     let below : c.args.code < 1000 = search rules in
     let some : slice_get c.self.inside.directory.routes c.args.code ≡ Some (Some c.in_ok-place.place) = search rules in
     let within = route-within c.args.self.now c.self.inside.directory shown c.args.code _ below some in
-    let here : slice_get c.args.self.now.routes c.in_ok-place.place ≡ Some c.index.result.now = slice_get_read c.args.self.now.routes _ _ _ refl within (search rules) in
+    let here : slice_get c.args.self.now.routes c.in_ok-place.place ≡ Some c.index.result.now =
+    slice_get_read c.args.self.now.routes _ _ _ refl within (search rules) in
     let groups : c.groups.result.now ≡ c.index.result.now.groups = search rules in
     ap Some groups ∙ sym (groups-at c.args.self.now c.self.inside.directory shown c.args.code _ _ below some here)

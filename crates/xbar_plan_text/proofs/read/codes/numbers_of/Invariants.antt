@@ -1,5 +1,4 @@
-use Rattle.std.proofs.Common.{◌≡◌, map, take}
-use Rattle.std.specs.Prelude.{string_bytes}
+use Rattle.std.proofs.Common.{◌≡◌, map, take, string_bytes}
 use Rattle.xbar_plan_text.specs.Texts.{capped_number}
 use Rattle.xbar_plan_text.proofs.read.codes.numbers_of.Given as goal
 

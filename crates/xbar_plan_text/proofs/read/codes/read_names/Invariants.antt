@@ -1,5 +1,4 @@
-use Rattle.std.proofs.Common.{◌≡◌, take, map}
-use Rattle.std.specs.Prelude.{Some, string_bytes}
+use Rattle.std.proofs.Common.{◌≡◌, take, map, Some, string_bytes}
 use Rattle.xbar_plan_text.specs.Texts.{read_all, name_of}
 use Rattle.xbar_plan_text.proofs.read.codes.read_names.Given as goal
 

@@ -1,5 +1,4 @@
-use Rattle.std.proofs.Common.{map, ◌∙◌, ap}
-use Rattle.std.proofs.lemmas.List.{take_all}
+use Rattle.std.proofs.Common.{map, ◌∙◌, ap, take_all}
 use Rattle.xbar_plan_text.specs.Texts.{capped_route}
 use Rattle.xbar_plan_text.proofs.read.codes.routes_of.Goals as goal
 

@@ -1,8 +1,7 @@
-use Rattle.std.proofs.Common.{◌≡◌, take}
-use Rattle.std.specs.Prelude.{Some}
-use Rattle.xbar_plan_text.specs.Texts.{read_all, fault_of}
+use Rattle.std.proofs.Common.{◌≡◌, take, Some}
+use Rattle.xbar_plan_text.{specs.Texts.{read_all, fault_of}, proofs.FirstItem.bytes_of}
 use Rattle.xbar_plan_text.proofs.read.faults.read_faults.Given as goal
 
 -- the items so far, as read, are those kept
-abbrev pub invariant-loop-text : goal.invariant-loop-text
-invariant-loop-text l = read_all (λ text. fault_of text.now) (take l.text-index l.texts) ≡ Some (l.links.items)
+abbrev pub invariant-loop-item : goal.invariant-loop-item
+invariant-loop-item l = read_all fault_of (take l.item (bytes_of l.texts)) ≡ Some (l.links.items)

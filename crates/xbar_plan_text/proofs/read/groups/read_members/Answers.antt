@@ -1,17 +1,17 @@
-use Rattle.std.proofs.Common.{rules, ◌≡◌, [], ◌∷◌, ◌++◌, refl, inr, sym, ◌∙◌, ap}
-use Rattle.std.specs.Prelude.{Some}
-use Rattle.xbar_plan_text.specs.Texts.{member_of}
-use Rattle.xbar_plan_text.proofs.ReadAll.{read_more, read_fails, read_whole}
+use Rattle.std.proofs.Common.{rules, ◌≡◌, [], ◌∷◌, ◌++◌, sym, ◌∙◌, ap, Some}
+use Rattle.xbar_plan_text.{specs.Texts.member_of, proofs.ReadAll.{read_more, read_fails, read_whole}}
 use Rattle.xbar_plan_text.proofs.read.groups.read_members.Goals as goal
 
 pub returns-in_default : goal.returns-in_default
 returns-in_default c =
-    inr (refl, read_fails (λ part. member_of c.args.kind part.now) c.args.parts.now c.loop-part.part-index _ c.loop-part-test.true (sym c.read_member.ensures ∙ c.in_default.is))
+    read_fails (λ part. member_of c.args.kind part.now) c.args.parts.now c.loop-part.part-index _ c.loop-part-test.true
+    (sym c.read_member.ensures ∙ c.in_default.is)
 
 pub loop-part-preserved : goal.loop-part-preserved
 loop-part-preserved c =
     let kept : c.extend_from_slice.new.self.items ≡ c.loop-part.members.items ++ c.in-Some.member ∷ [] = search rules in
-    read_more (λ part. member_of c.args.kind part.now) c.args.parts.now _ c.loop-part.part-index _ _ c.loop-part-test.true c.loop-part.invariant (sym c.read_member.ensures ∙ c.in-Some.is) ∙ ap (λ z. Some z) (sym kept)
+    read_more (λ part. member_of c.args.kind part.now) c.args.parts.now _ c.loop-part.part-index _ _ c.loop-part-test.true c.loop-part.invariant
+    (sym c.read_member.ensures ∙ c.in-Some.is) ∙ ap (λ z. Some z) (sym kept)
 
 pub returns : goal.returns
 returns c = read_whole (λ part. member_of c.args.kind part.now) c.args.parts.now _ c.loop-part.part-index c.loop-part-test.false c.loop-part.invariant

@@ -1,5 +1,4 @@
-use Rattle.std.proofs.Common.{◌≡◌, take}
-use Rattle.std.specs.Prelude.{Some}
+use Rattle.std.proofs.Common.{◌≡◌, take, Some}
 use Rattle.xbar_plan_text.specs.Texts.{read_all, member_of}
 use Rattle.xbar_plan_text.proofs.read.groups.read_members.Given as goal
 

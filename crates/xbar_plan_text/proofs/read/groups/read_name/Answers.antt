@@ -1,7 +1,5 @@
 use Rattle.std.proofs.Common.{rules, ◌≡◌, true}
-use Rattle.std.proofs.lemmas.Str.{IsUtf8-from_ascii}
-use Rattle.xbar_plan.specs.Lawful.{is_name as is_group_name}
-use Rattle.xbar_plan_text.proofs.Names.{name-ascii}
+use Rattle.{std.proofs.lemmas.Str.IsUtf8-from_ascii, xbar_plan.specs.Lawful.{is_name as is_group_name}, xbar_plan_text.proofs.Names.name-ascii}
 use Rattle.xbar_plan_text.proofs.read.groups.read_name.Goals as goal
 
 pub unreachable-requires : goal.unreachable-requires

@@ -1,5 +1,4 @@
-use Rattle.std.proofs.Common.{◌≡◌, take}
-use Rattle.std.specs.Prelude.{Some}
+use Rattle.std.proofs.Common.{◌≡◌, take, Some}
 use Rattle.xbar_plan_text.specs.Texts.{read_all, line_of}
 use Rattle.xbar_plan_text.proofs.read.numbers.read_lines.Given as goal
 

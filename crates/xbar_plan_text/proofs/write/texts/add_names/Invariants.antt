@@ -1,5 +1,4 @@
-use Rattle.std.proofs.Common.{◌≡◌, ◌∷◌, ◌++◌, take}
-use Rattle.std.specs.Prelude.{flat_map, string_bytes}
+use Rattle.std.proofs.Common.{◌≡◌, ◌∷◌, ◌++◌, take, flat_map, string_bytes}
 use Rattle.xbar_plan_text.specs.Written.{name_at}
 use Rattle.xbar_plan_text.proofs.write.texts.add_names.Given as goal
 

@@ -1,8 +1,5 @@
-use Rattle.std.proofs.Common.{rules, ◌≡◌, ◌∷◌, ◌++◌, ℕ, List, string_bytes, sym, ◌∙◌, ap}
-use Rattle.std.specs.Prelude.{flat_map}
-use Rattle.std.proofs.lemmas.List.{append_assoc}
-use Rattle.xbar_plan_text.specs.Written.{kind_text, member_text}
-use Rattle.std.proofs.lemmas.List.Folds.{flat_map-map}
+use Rattle.std.proofs.Common.{rules, ◌≡◌, ◌∷◌, ◌++◌, ℕ, List, string_bytes, sym, ◌∙◌, ap, flat_map, append_assoc}
+use Rattle.{xbar_plan_text.specs.Written.{kind_text, member_text}, std.proofs.lemmas.List.Folds.flat_map-map}
 use Rattle.xbar_plan_text.proofs.write.texts.group_text.Goals as goal
 
 pub returns : goal.returns

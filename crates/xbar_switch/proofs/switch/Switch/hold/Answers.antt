@@ -1,7 +1,5 @@
 use Rattle.std.proofs.Common.{◌≡◌, ◌<◌, refl, sym, ◌∙◌}
-use Rattle.xbar_switch.specs.Shape.{places}
-use Rattle.xbar_switch.specs.Field.{field_of}
-use Rattle.xbar_switch.proofs.Fields.{ChangesField-close}
+use Rattle.xbar_switch.{specs.{Shape.places, Field.field_of}, proofs.Fields.ChangesField-close}
 use Rattle.xbar_switch.proofs.switch.Switch.hold.Goals as goal
 
 pub returns-clause-ok : goal.returns-clause-ok

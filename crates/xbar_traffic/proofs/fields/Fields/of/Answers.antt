@@ -1,6 +1,5 @@
 use Rattle.std.proofs.Common.{rules, ◌≡◌, [], length}
-use Rattle.csv.specs.Records.{fields_of}
-use Rattle.xbar_traffic.proofs.FiveFields.{list_of_five}
+use Rattle.{csv.specs.Records.fields_of, xbar_traffic.proofs.FiveFields.list_of_five}
 use Rattle.xbar_traffic.proofs.fields.Fields.of.Goals as goal
 
 pub returns : goal.returns

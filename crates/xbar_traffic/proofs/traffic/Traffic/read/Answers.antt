@@ -1,12 +1,6 @@
-use Rattle.std.proofs.Common.{[], ◌≡◌, ◌∙◌, ◌||◌, Ok, Err, sym, ap, inr, true, rules, Bool}
-use Rattle.std.specs.Result.{is_ok}
-use Rattle.csv.specs.Records.{fields_of}
-use Rattle.csv.specs.Reading.{strip_bom}
-use Rattle.xbar_traffic.specs.Numbers.{contains}
-use Rattle.xbar_traffic.specs.Traffic.{has_number, is_in_rows}
-use Rattle.xbar_traffic.proofs.OneReading.{rows_in_range, rows_of_mode}
-use Rattle.xbar_traffic.proofs.RowsSoFar.{judged_by_same, is_in_rows-more}
-use Rattle.xbar_traffic.proofs.UnderWay.{begins, ends, goes_on, stops}
+use Rattle.std.proofs.Common.{[], ◌≡◌, ◌∙◌, ◌||◌, Ok, Err, sym, ap, inr, true, rules, Bool, is_ok}
+use Rattle.{csv.specs.{Records.fields_of, Reading.strip_bom}, xbar_traffic.specs.{Numbers.contains, Traffic.{has_number, is_in_rows}}}
+use Rattle.xbar_traffic.proofs.{OneReading.{rows_in_range, rows_of_mode}, RowsSoFar.{judged_by_same, is_in_rows-more}, UnderWay.{begins, ends, goes_on, stops}}
 use Rattle.xbar_traffic.proofs.traffic.Traffic.read.Goals as goal
 
 pub loop-row-init : goal.loop-row-init
@@ -28,15 +22,18 @@ pub returns-in-Ok-false-clause-traffic : goal.returns-in-Ok-false-clause-traffic
 returns-in-Ok-false-clause-traffic c =
     let u = c.loop-row.invariant.reading in
     let ended = rw c.in-Ok-false.field-0-test at (c.in-Ok-false.ensures.reads u.trim u.ready) in
-    ends c.args.mode (strip_bom c.args.bytes.now) c.loop-row.reader c.read_byte_record.new.self c.loop-row.rows.items (fields_of c.read_byte_record.new.row) u ended
+    ends c.args.mode (strip_bom c.args.bytes.now) c.loop-row.reader c.read_byte_record.new.self c.loop-row.rows.items (fields_of c.read_byte_record.new.row) u
+    ended
 
 pub returns-in-Err-judge-clause-traffic : goal.returns-in-Err-judge-clause-traffic
 returns-in-Err-judge-clause-traffic c =
     let u = c.loop-row.invariant.reading in
     let took = rw c.in-Ok-true.field-0-test at (c.in-Ok-true.ensures.reads u.trim u.ready) in
     let judged = rw c.in-Err-judge.is at c.judge.ensures.judged in
-    stops c.args.mode (strip_bom c.args.bytes.now) c.loop-row.reader c.read_byte_record.new.self c.loop-row.rows.items (fields_of c.read_byte_record.new.row) c.in-Err-judge.fault u took
-    (judged_by_same c.args.mode (contains c.loop-row.numbers) (is_in_rows c.loop-row.rows.items) c.loop-row.invariant.numbers (fields_of c.read_byte_record.new.row) (Err c.in-Err-judge.fault) judged)
+    stops c.args.mode (strip_bom c.args.bytes.now) c.loop-row.reader c.read_byte_record.new.self c.loop-row.rows.items (fields_of c.read_byte_record.new.row)
+    c.in-Err-judge.fault u took
+    (judged_by_same c.args.mode (contains c.loop-row.numbers) (is_in_rows c.loop-row.rows.items) c.loop-row.invariant.numbers
+    (fields_of c.read_byte_record.new.row) (Err c.in-Err-judge.fault) judged)
 
 pub returns-in-Ok-false-clause-range : goal.returns-in-Ok-false-clause-range
 returns-in-Ok-false-clause-range c = rows_in_range c.args.mode [] _ _ _ (returns-in-Ok-false-clause-traffic c)
@@ -59,9 +56,12 @@ loop-row-preserved c =
     let good : is_ok c.extend_from_slice.result ≡ true = search rules in
     let items = rw good at c.extend_from_slice.ensures.items in
     rw items record {
-      reading = goes_on c.args.mode (strip_bom c.args.bytes.now) c.loop-row.reader c.read_byte_record.new.self c.loop-row.rows.items (fields_of c.read_byte_record.new.row) c.in-Ok.row u took
+      reading =
+          goes_on c.args.mode (strip_bom c.args.bytes.now) c.loop-row.reader c.read_byte_record.new.self c.loop-row.rows.items
+          (fields_of c.read_byte_record.new.row) c.in-Ok.row u took
           (c.in-Ok-true.ensures.ready u.trim) c.in-Ok-true.ensures.flexible
-          (judged_by_same c.args.mode (contains c.loop-row.numbers) (is_in_rows c.loop-row.rows.items) c.loop-row.invariant.numbers (fields_of c.read_byte_record.new.row) (Ok c.in-Ok.row) judged);
+          (judged_by_same c.args.mode (contains c.loop-row.numbers) (is_in_rows c.loop-row.rows.items) c.loop-row.invariant.numbers
+          (fields_of c.read_byte_record.new.row) (Ok c.in-Ok.row) judged);
       numbers = λ number. numbers number ∙ ap (λ (seen : Bool). seen || has_number number c.in-Ok.row) (c.loop-row.invariant.numbers number)
           ∙ sym (is_in_rows-more c.loop-row.rows.items c.in-Ok.row number);
     }

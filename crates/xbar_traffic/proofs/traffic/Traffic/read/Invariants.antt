@@ -1,8 +1,5 @@
 use Rattle.std.proofs.Common.{◌≡◌, ℕ}
-use Rattle.csv.specs.Reading.{strip_bom}
-use Rattle.xbar_traffic.specs.Numbers.{contains}
-use Rattle.xbar_traffic.specs.Traffic.{is_in_rows}
-use Rattle.xbar_traffic.proofs.UnderWay.{IsUnderWay}
+use Rattle.{csv.specs.Reading.strip_bom, xbar_traffic.{specs.{Numbers.contains, Traffic.is_in_rows}, proofs.UnderWay.IsUnderWay}}
 use Rattle.xbar_traffic.proofs.traffic.Traffic.read.Given as goal
 
 abbrev pub invariant-loop-row : goal.invariant-loop-row

@@ -1,7 +1,5 @@
 use Rattle.std.proofs.Common.{sym, ◌∙◌, ap}
-use Rattle.xbar_moves.specs.Exchange.{OfPlan}
-use Rattle.xbar_moves.specs.Moves.{steps}
-use Rattle.xbar_walk.proofs.ToldSteps.{steps_office}
+use Rattle.{xbar_moves.specs.{Exchange.OfPlan, Moves.steps}, xbar_walk.proofs.ToldSteps.steps_office}
 use Rattle.xbar_walk.proofs.observer.UnobservedObserver.steps.Goals as goal
 
 pub returns-clause-observed : goal.returns-clause-observed

@@ -1,9 +1,5 @@
-use Rattle.std.proofs.Common.{◌++◌, ℕ, List, append_assoc, ap, ◌∙◌}
-use Rattle.std.specs.Prelude.{string_bytes}
-use Rattle.xbar_step_text.specs.Objects.{step_object}
-use Rattle.xbar_walk.specs.Items.{step_item}
-use Rattle.xbar_walk.proofs.StepItems.{object_item}
-use Rattle.xbar_walk.proofs.Storytelling.{object_added}
+use Rattle.std.proofs.Common.{◌++◌, ℕ, List, append_assoc, ap, ◌∙◌, string_bytes}
+use Rattle.{xbar_step_text.specs.Objects.step_object, xbar_walk.{specs.Items.step_item, proofs.{StepItems.object_item, Storytelling.object_added}}}
 use Rattle.xbar_walk.proofs.story.Story.add_step_object.Goals as goal
 
 pub returns : goal.returns

@@ -1,12 +1,12 @@
 use Rattle.std.proofs.Common.{◌∷◌, ◌++◌, [], List, sym, ap, ◌∙◌}
-use Rattle.xbar_walk.specs.declared.tested.Tested.{Tested}
-use Rattle.xbar_walk.proofs.Joining.{kept_joined}
-use Rattle.xbar_walk.proofs.Storytelling.{test_begins}
+use Rattle.xbar_walk.{specs.declared.tested.Tested.Tested, proofs.{Joining.kept_joined, Storytelling.test_begins}}
 use Rattle.xbar_walk.proofs.story.Story.add_test.Goals as goal
 
 pub invariant_of-self : goal.invariant_of-self
 invariant_of-self c = record {
-  joined = kept_joined c.args.self.now.detail c.args.self.now.tests.items c.push.new.self.items c.args.tested _ c.args.self.now.joined (sym c.if-shares_pending_line.ensures) c.push.ensures.items;
+  joined =
+      kept_joined c.args.self.now.detail c.args.self.now.tests.items c.push.new.self.items c.args.tested _ c.args.self.now.joined
+      (sym c.if-shares_pending_line.ensures) c.push.ensures.items;
 }
 
 pub returns : goal.returns

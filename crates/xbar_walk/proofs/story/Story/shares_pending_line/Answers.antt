@@ -1,7 +1,5 @@
 use Rattle.std.proofs.Common.{List, ◌∙◌, ap}
-use Rattle.xbar_walk.specs.Rows.{shares_line}
-use Rattle.xbar_walk.specs.declared.tested.Tested.{Tested}
-use Rattle.xbar_walk.proofs.Joining.{last_leads}
+use Rattle.xbar_walk.{specs.{Rows.shares_line, declared.tested.Tested.Tested}, proofs.Joining.last_leads}
 use Rattle.xbar_walk.proofs.story.Story.shares_pending_line.Goals as goal
 
 pub returns-then-is_short : goal.returns-then-is_short

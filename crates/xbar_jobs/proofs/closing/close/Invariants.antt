@@ -1,9 +1,0 @@
-use Rattle.std.proofs.Common.{◌-◌}
-use Rattle.xbar_jobs.specs.Running.{RunsOut}
-use Rattle.xbar_jobs.proofs.closing.close.Given as goal
-
-abbrev pub invariant-loop-made : goal.invariant-loop-made
-invariant-loop-made l = RunsOut l._plan l._marker l.most l.made l.initial.attempt l.initial.words l.attempt l.words
-
-abbrev pub decreases-loop-made : goal.decreases-loop-made
-decreases-loop-made l = l.most - l.made

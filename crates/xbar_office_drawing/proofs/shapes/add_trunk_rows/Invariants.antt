@@ -1,9 +1,0 @@
-use Rattle.std.proofs.Common.{◌≡◌, ◌++◌}
-use Rattle.std.specs.Prelude.{flat_map, string_bytes}
-use Rattle.std.specs.List.{range_with_len}
-use Rattle.xbar_office_drawing.specs.Shapes.{trunk_row}
-use Rattle.xbar_office_drawing.specs.Figures.{figures_text}
-use Rattle.xbar_office_drawing.proofs.shapes.add_trunk_rows.Given as goal
-
-abbrev pub invariant-loop-switch : goal.invariant-loop-switch
-invariant-loop-switch l = string_bytes l.text ≡ string_bytes l.initial.text ++ figures_text (flat_map trunk_row (range_with_len 0 l.switch))
