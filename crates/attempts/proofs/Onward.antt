@@ -1,8 +1,8 @@
 -- with what was seized or read there is room, and the resume point is valid
 use Rattle.std.proofs.Common.{◌≡◌, ℕ, ◌<◌, ◌^◌, Bool, true, List, [], ◌∷◌, ◌++◌, length, refl, sym, subst, Option, None, Some, Err, IfSome}
-use Rattle.turns.specs.{Attempt.{IsValidIn, asked_in, change, restarted}, Script.{value_read, walk}, Seen.Seen, System.System}
-use Rattle.turns.specs.declared.{answer.Answer.Answer, phase.Phase.{Phase, TheVariants.{Requests, Seizes, Tests}}, reading.Reading.Reading}
-use Rattle.turns.{specs.declared.wanted.Wanted.TheVariants.Test, proofs.{Room.{held_before, read_before}, Words.read_more}}
+use Rattle.turns.specs.{Attempt.{IsValidIn, asked_in, change, restarted}, Script.{value_read, walk}, Seen.Seen, System.System, declared.answer.Answer.Answer}
+use Rattle.turns.specs.declared.{phase.Phase.{Phase, TheVariants.{Requests, Seizes, Tests}}, reading.Reading.Reading, wanted.Wanted.TheVariants.Test}
+use Rattle.turns.proofs.{Room.{held_before, read_before}, Words.read_more}
 use Rattle.attempts.specs.{Points.Extends, Validity.{AreScripts, AttemptView, CanWalk, IsValidInBounds, ResumePointIsValidIn, IsValid, attempt_of, begun_at}}
 use Rattle.attempts.specs.{SystemWith.{SystemWith, system_with}, Applied.MayRead}
 use Rattle.attempts.proofs.{ReadOnce.wants_unread, Places.{FitsValue, fits_request, fits_seize, fits_test, place_begin, place_change, place_restarted}}

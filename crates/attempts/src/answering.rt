@@ -3,7 +3,7 @@
 
 ghost use Rattle.std.specs.Prelude.{◌≡◌, ◌<◌, ◌++◌, ◌∷◌, [], ℕ, IfNone, IfSome, length};
 ghost use Rattle.turns.specs.Attempt.{asked_in, change, denied_request, giving_back, operated, rest_of};
-ghost use Rattle.attempts.specs.Counting.{count_in, counted};
+ghost use Rattle.attempts.specs.Counting.{count_in, counted, counted_by};
 ghost use Rattle.attempts.specs.WalkOnWords.{walk_on_words};
 ghost use Rattle.attempts.specs.Points.{GoesOnTo};
 ghost use Rattle.attempts.specs.Running.{WalksBySteps};
@@ -229,7 +229,7 @@ fn apply_seized<S: Scripts<READINGS, HELD>, const READINGS: usize, const HELD: u
 }
 
 /// The word that the attempt's next step tests. None in other phases.
-pub(crate) fn to_test<S: Scripts<READINGS, HELD>, const READINGS: usize, const HELD: usize>(
+fn to_test<S: Scripts<READINGS, HELD>, const READINGS: usize, const HELD: usize>(
     attempt: &AttemptOf<S, READINGS, HELD>,
     setting: &S::Setting,
     value: u64,
@@ -264,7 +264,7 @@ fn read_on<S: Scripts<READINGS, HELD>, const READINGS: usize, const HELD: usize>
 }
 
 /// Adds the reading and goes straight on to testing `next`, without a walk.
-pub(crate) fn read_up_to<S: Scripts<READINGS, HELD>, const READINGS: usize, const HELD: usize>(
+fn read_up_to<S: Scripts<READINGS, HELD>, const READINGS: usize, const HELD: usize>(
     attempt: &mut AttemptOf<S, READINGS, HELD>,
     setting: &S::Setting,
     reading: Reading<usize>,
@@ -282,7 +282,7 @@ pub(crate) fn read_up_to<S: Scripts<READINGS, HELD>, const READINGS: usize, cons
 }
 
 /// Adds the reading and goes on, without a walk if `following` knows the next word.
-pub(crate) fn read<S: Scripts<READINGS, HELD>, const READINGS: usize, const HELD: usize>(
+fn read<S: Scripts<READINGS, HELD>, const READINGS: usize, const HELD: usize>(
     attempt: &mut AttemptOf<S, READINGS, HELD>,
     setting: &S::Setting,
     reading: Reading<usize>,
@@ -328,7 +328,7 @@ fn apply_turn<S: Scripts<READINGS, HELD>, const READINGS: usize, const HELD: usi
 }
 
 /// Past the turn: the next effect was made, or, if none is left, the first lock was freed.
-pub(crate) fn operate<S: Scripts<READINGS, HELD>, const READINGS: usize, const HELD: usize>(
+fn operate<S: Scripts<READINGS, HELD>, const READINGS: usize, const HELD: usize>(
     attempt: &mut AttemptOf<S, READINGS, HELD>,
 )
     ensures operates { attempt_of S.Scripts attempt.new
@@ -375,7 +375,7 @@ fn apply_done<S: Scripts<READINGS, HELD>, const READINGS: usize, const HELD: usi
 
 /// Like `apply`, but doesn't count the step.
 #[inline(always)]
-pub(crate) fn apply_uncounted<S: Scripts<READINGS, HELD>, const READINGS: usize, const HELD: usize>(
+fn apply_uncounted<S: Scripts<READINGS, HELD>, const READINGS: usize, const HELD: usize>(
     attempt: &mut AttemptOf<S, READINGS, HELD>,
     setting: &S::Setting,
     answer: Answer,
@@ -413,4 +413,18 @@ pub fn apply<S: Scripts<READINGS, HELD>, const READINGS: usize, const HELD: usiz
 {
     apply_uncounted::<S, READINGS, HELD>(attempt, setting, answer);
     attempt.count_step();
+}
+
+/// Applies a step past the turn: the next effect was made, or, if none is left, the first lock was
+/// freed. This is `apply` with `Answer::Done` in that phase, without looking at the phase.
+pub fn apply_past_turn<S: Scripts<READINGS, HELD>, const READINGS: usize, const HELD: usize>(
+    attempt: &mut AttemptOf<S, READINGS, HELD>,
+)
+    ensures operates { attempt_of S.Scripts attempt.new
+        ≡ operated (attempt_of S.Scripts attempt.old) (attempt_of S.Scripts attempt.old).effects }
+    ensures phase { attempt.new.phase ≡ attempt.old.phase }
+    ensures count { attempt.new.count ≡ counted_by 1 attempt.old.count }
+{
+    operate::<S, READINGS, HELD>(attempt);
+    attempt.count_steps(1);
 }

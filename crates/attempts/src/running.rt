@@ -1,22 +1,27 @@
-//! Runs an attempt on plain words that nobody else changes meanwhile: one walk makes many steps.
+//! Makes an attempt's steps on plain words that nobody else changes meanwhile: one step, or many by
+//! one walk.
 
-ghost use Rattle.std.specs.Prelude.{◌≡◌, ◌<◌, ◌≤◌, ℕ, IfNone, IfSome, List};
+ghost use Rattle.std.specs.Prelude.{◌≡◌, ◌<◌, ◌≤◌, ℕ, IfNone, IfSome, List, ◌≢◌, length};
 ghost use Rattle.turns.specs.Sharing.{with_request};
-ghost use Rattle.turns.specs.Sharings.{preferring, seized_by as seized_by_of};
+ghost use Rattle.turns.specs.Sharings.{preferring, seized_by as seized_by_of, sharing_of};
 ghost use Rattle.turns.specs.System.{AreWords};
-ghost use Rattle.attempts.specs.Counting.{counted_by};
-ghost use Rattle.attempts.specs.WalkOnWords.{LeadsTo, WantsNext};
+ghost use Rattle.attempts.specs.Counting.{counted_by, count_in, counted};
+ghost use Rattle.attempts.specs.WalkOnWords.{LeadsTo, WantsNext, answer_at, stepped};
 ghost use Rattle.attempts.specs.Running.{RunsFarEnough, Runs};
 ghost use Rattle.attempts.specs.Of.{AreScripts, CanWalk, MayContinue, IsValid, attempt_of, system_of};
+ghost use Rattle.turns.specs.Attempt.{IsAnswer, act};
+ghost use Rattle.turns.specs.declared.act.Act.TheVariants.{Finished};
 
-use crate::answering::walk_by_steps;
+use crate::answering::{apply, walk_by_steps};
 use crate::attempt::AttemptOf;
+use crate::next_step::next;
+use crate::on_words::{OnWords, step_answer, step_operation, step_word};
 use crate::scripts::Scripts;
 use turns::lock_word::{asked_by, seized_by};
-use turns::{LockSharing, Wanted};
+use turns::{Answer, LockSharing, Wanted};
 
 /// Does nothing. Called for its contract: each word fits in 64 bits.
-pub(crate) fn are_words(_words: &[u64])
+fn are_words(_words: &[u64])
     ensures { AreWords _words.now }
 {}
 
@@ -102,4 +107,41 @@ pub fn run<S: Scripts<READINGS, HELD>, const READINGS: usize, const HELD: usize>
     let made = make_steps::<S, READINGS, HELD>(attempt, setting, actor, words, most);
     attempt.count_steps(made);
     made
+}
+
+/// Makes the attempt's next step on the words, and returns what it was answered. `actor` is the
+/// number of the attempt's actor. Without a next step, nothing changes but the count.
+pub fn step<S: OnWords<READINGS, HELD>, const READINGS: usize, const HELD: usize>(
+    attempt: &mut AttemptOf<S, READINGS, HELD>,
+    setting: &S::Setting,
+    actor: u32,
+    words: &mut [u64],
+) -> Answer
+    requires setting { S.IsSetting setting.now }
+    requires scripts { AreScripts S.Lock.eq S.Scripts setting.now }
+    requires valid { IsValid S.Lock.eq S.Scripts setting.now attempt.old }
+    requires actor { actor < (sharing_of (S.system setting.now).sharing).most }
+    requires words { length words.old ≡ (S.system setting.now).size }
+    ensures answer { let O = system_of S.Lock.eq S.Scripts setting.now in
+        result ≡ answer_at O actor
+        (record { attempt = attempt_of S.Scripts attempt.old; words = words.old }) }
+    ensures kind { let O = system_of S.Lock.eq S.Scripts setting.now in
+        act (attempt_of S.Scripts attempt.old) ≢ Finished →
+        IsAnswer O (act (attempt_of S.Scripts attempt.old)) result }
+    ensures steps { let O = system_of S.Lock.eq S.Scripts setting.now in
+        stepped O actor (record { attempt = attempt_of S.Scripts attempt.old; words = words.old })
+        ≡ record { attempt = attempt_of S.Scripts attempt.new; words = words.new } }
+    ensures count { attempt.new.count
+        ≡ count_in attempt.new.phase attempt.new.held (counted attempt.old.count) }
+    ensures valid { IsValid S.Lock.eq S.Scripts setting.now attempt.new }
+{
+    // Called for its contract alone.
+    are_words(words);
+    let act = next::<S, READINGS, HELD>(attempt);
+    let place = step_word::<S, READINGS, HELD>(setting, act);
+    let found = words[place];
+    words[place] = step_operation::<S, READINGS, HELD>(setting, actor, act).apply(found);
+    let answer = step_answer(S::sharing(setting), actor, attempt.phase, found);
+    apply::<S, READINGS, HELD>(attempt, setting, answer);
+    answer
 }

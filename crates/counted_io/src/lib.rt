@@ -3,14 +3,12 @@
 
 pub use counted::Counted;
 pub use device::{Sink, Source};
-pub use input::read_all;
-pub use output::write_all;
 pub use read_fault::ReadFault;
+pub use whole::{read_all, write_all};
 pub use write_fault::WriteFault;
 
 mod counted;
 mod device;
-mod input;
-mod output;
 mod read_fault;
+mod whole;
 mod write_fault;

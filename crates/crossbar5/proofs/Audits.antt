@@ -2,7 +2,7 @@
 use Rattle.std.proofs.Common.{◌≡◌, ◌∙◌, ℕ, ◌*◌, List, [], ◌∷◌, length, refl, sym, ap, ap₂, subst, arith, length-append, Option, Some, slice_get, take}
 use Rattle.{xbar_equip.specs.{declared.path.Path.Path, Crosspoint.crosspoints}, xbar_plan.specs.Tables.Tables}
 use Rattle.xbar_office.specs.{Closed.closed, Audit.IsFirstWrongReply, Legal.{HaveTurns, IsLegal, after}, declared.audit_fault.AuditFault.TheVariants.Reply}
-use Rattle.{xbar_office.{specs.declared.reply.Record.Record, proofs.AuditedRecords.{no-fault, turn_at}}, xbar_report.specs.declared.counts.Counts.Counts}
+use Rattle.{xbar_office.{specs.declared.reply.Record.Record, proofs.AuditedRecords.{no-fault, turn_at}}, xbar_report.specs.declared.line.Counts.Counts}
 use Rattle.crossbar5.specs.{Audit.{AreRightCounts, IsFoundOf, righted, counts_after}, declared.finding.Finding.Finding}
 use Rattle.crossbar5.specs.declared.finding.{Finding.TheVariants.{NoReport, WrongTurn, WrongReply, WrongCounts, Legal}, OfficeCounts.OfficeCounts}
 

@@ -3,7 +3,7 @@ use Rattle.std.proofs.Common.{◌≡◌, ◌⊎◌, inl, inr, ℕ, true, true≢
 use Rattle.turns.specs.{Attempt.{act, act_in, restarted, restarted_in}, Runs.is_finished, World.Does}
 use Rattle.{turns.specs.declared.phase.Phase.TheVariants.{Requests, Seizes, Tests, Turns, Withdraws, GivesBack, Operates}, xbar_plan.specs.Tables.Tables}
 use Rattle.xbar_jobs.specs.{Attempt.{Attempt, Phase}, Office.office}
-use Rattle.xbar_moves.specs.{Exchange.{Exchange, Marker, is_idle}, Holding.IsAt, Moves.{after_step, with_work}, Settling.settled, declared.kind.Kind.Kind}
+use Rattle.xbar_moves.specs.{Exchange.{Exchange, Marker, is_idle}, Holding.IsAt, Moves.{after_step, with_work}, Settling.settled, declared.kinds.Kind.Kind}
 use Rattle.xbar_moves.proofs.{Keeping.{KeepsRestarts, KeepsSteps, settled_keeps}, Markers.marker_same, StepCases.{IsMade, step_cases}}
 use Rattle.{xbar_traffic.specs.declared.row.Row.Row, crossbar5.specs.{Look.AreIdle, Run.{Leaves, outcome, reached, settling}}}
 

@@ -1,8 +1,8 @@
 -- a text is read letter by letter as kinds
 use Rattle.std.proofs.Common.{◌≡◌, ℕ, zero, suc, ◌+◌, ◌<◌, ◌≤◌, false, EachIndex, IsTrue, List, [], ◌∷◌, ◌++◌, length, map, slice_index, take, get_or, refl}
 use Rattle.std.proofs.Common.{sym, ◌∙◌, ap, subst, arith, ◌↔◌, IfSome, IsSome, None, Option, Some, true≢false, take_all}
-use Rattle.{std.proofs.lemmas.List.{length-map, map_push, take_more}, xbar_moves.specs.{Kinds.IsMarkerCount, declared.kind.Kind.Kind}}
-use Rattle.{xbar_moves.specs.declared.kind.Kind.TheVariants.{Dial, Completing, Combined}, crossbar5.specs.Kinds.{Names, NamesNone, is_letter, letter_of}}
+use Rattle.{std.proofs.lemmas.List.{length-map, map_push, take_more}, xbar_moves.specs.{Kinds.IsMarkerCount, declared.kinds.Kind.Kind}}
+use Rattle.{xbar_moves.specs.declared.kinds.Kind.TheVariants.{Dial, Completing, Combined}, crossbar5.specs.Kinds.{Names, NamesNone, is_letter, letter_of}}
 
 -- the kinds so far are those of the letters so far
 abbrev pub AreRead : List ℕ → List Kind → ℕ → Type 0

@@ -2,8 +2,8 @@
 use Rattle.std.proofs.Common.{◌≡◌, ℕ, List, refl, sym, ◌∙◌, ap, subst, Result, Ok, Err, IfOk}
 use Rattle.{xbar_plan.specs.Tables.Tables, xbar_moves.specs.{Exchange.OfPlan, Settling.settled}, xbar_traffic.specs.declared.fault.TrafficFault.TrafficFault}
 use Rattle.{xbar_walk.specs.Walks.Walk, crossbar5.specs.{Look.{IsLookOf, shown}, Run.{IsOneHistory, IsWrittenOf, Leaves, LeavesOneHistory, Outcome}}}
-use Rattle.crossbar5.specs.{Run.{RefusesTraffic, settling}, TrafficRefusal.IsTrafficRefusal, Walk.IsWalkResult, declared.status.Status.Status}
-use Rattle.{crossbar5.specs.declared.status.Status.TheVariants.Fine, crossbar5_task.specs.declared.forms.LookForm.{LookForm, TheVariants.{Words, Json, Svg}}}
+use Rattle.crossbar5.specs.{Run.{RefusesTraffic, settling}, TrafficRefusal.IsTrafficRefusal, Walk.IsWalkResult, declared.written.Status.Status}
+use Rattle.{crossbar5.specs.declared.written.Status.TheVariants.Fine, crossbar5_task.specs.declared.task.LookForm.{LookForm, TheVariants.{Words, Json, Svg}}}
 
 -- what two clauses say of a value
 pub both : {T E : Type 0} (r : Result T E) (P Q : T → Type 0) → IfOk r P → IfOk r Q → IfOk r (λ x. P x × Q x)

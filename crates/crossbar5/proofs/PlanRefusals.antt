@@ -1,7 +1,7 @@
 -- a plan that is refused refuses any run
 use Rattle.std.proofs.Common.{◌≡◌, [], refl, sym, subst, List, Option, Some, None, Err, IfSome, ℕ}
 use Rattle.{xbar_plan.specs.declared.fault.PlanFault.PlanFault, crossbar5.specs.{PlanRefusal.{Response, IsAnswerOf, IsPlanRefusal, PlanRead}, Input.IsInputOf}}
-use Rattle.crossbar5.specs.declared.{input.Input.{Input, TheVariants.Refused}, status.Status.Status, written.Written.Written}
+use Rattle.crossbar5.specs.declared.{input.Input.{Input, TheVariants.Refused}, written.{Status.Status, Written.Written}}
 
 -- a refused plan is reported, whatever the input is, known or not
 pub refused_plan : (IsUnder : Response) (all : Option (List ℕ)) (plan : PlanRead) (fault : PlanFault) (text : List ℕ) (status : Status) → plan ≡ Err fault

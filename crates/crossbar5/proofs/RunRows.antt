@@ -3,7 +3,7 @@ use Rattle.std.proofs.Common.{◌≡◌, ℕ, suc, ◌+◌, ◌<◌, ◌≤◌, 
 use Rattle.std.proofs.Common.{take-append-drop, Option, Some, None, option_map, take}
 use Rattle.{std.proofs.lemmas.List.drop_all, xbar_plan.specs.Tables.Tables}
 use Rattle.xbar_traffic.specs.declared.{fault.{MarkerFault.MarkerFault, RowFault.{RowFault, TheVariants.Marker}, TrafficFault.TrafficFault}, row.Row.Row}
-use Rattle.{xbar_moves.specs.{Exchange.{Exchange, OfPlan, fresh_exchange}, declared.kind.Kind.Kind}, xbar_walk.specs.Items.Item}
+use Rattle.{xbar_moves.specs.{Exchange.{Exchange, OfPlan, fresh_exchange}, declared.kinds.Kind.Kind}, xbar_walk.specs.Items.Item}
 use Rattle.{xbar_walk.specs.{Observers.{AgreesWith, ChangesAs}, Walks.Walk, declared.detail.Detail.Detail}, crossbar5.specs.Rows.{after_rows, done, row_fault}}
 use Rattle.crossbar5.specs.{Run.{Leaves, Outcome, RefusesTraffic, at_end, judged, outcome_by, outcome_from, reached}, Walk.{walk_after_row, walk_after_rows}}
 

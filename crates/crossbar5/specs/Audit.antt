@@ -7,11 +7,11 @@ use Rattle.xbar_office.specs.declared.reply.Record.{Record}
 use Rattle.xbar_report.specs.Reading.{IsFaultOf}
 use Rattle.xbar_report.specs.Sheet.{IsReport}
 use Rattle.xbar_report.specs.Text.{card_lines, closed_line, line_with, paths_line, record_line, records_text}
-use Rattle.xbar_report.specs.declared.counts.Counts.{Counts}
+use Rattle.xbar_report.specs.declared.line.Counts.{Counts}
 use Rattle.xbar_report.specs.declared.report_fault.ReportFault.TheVariants.{Line, Turns}
 use Rattle.crossbar5.specs.Refusal.{report_fault_line}
-use Rattle.crossbar5.specs.declared.status.Status.{Status}
-use Rattle.crossbar5.specs.declared.status.Status.TheVariants.{Fine, ReportRefused, FoundWrong}
+use Rattle.crossbar5.specs.declared.written.Status.{Status}
+use Rattle.crossbar5.specs.declared.written.Status.TheVariants.{Fine, ReportRefused, FoundWrong}
 use Rattle.crossbar5.specs.declared.finding.Finding.{Finding}
 use Rattle.crossbar5.specs.declared.finding.Finding.TheVariants.{NoReport, WrongTurn, WrongReply, WrongCounts, Legal}
 use Rattle.crossbar5.specs.declared.finding.OfficeCounts.{OfficeCounts}

@@ -9,12 +9,12 @@ use Rattle.xbar_office_drawing.specs.Drawing.{office_drawing}
 use Rattle.xbar_page.specs.Page.{office_page}
 use Rattle.xbar_report.specs.Sheet.{IsReport}
 use Rattle.xbar_report.specs.Text.{records_text}
-use Rattle.xbar_report.specs.declared.counts.Counts.{Counts}
-use Rattle.crossbar5.specs.declared.status.Status.{Status}
-use Rattle.crossbar5.specs.declared.status.Status.TheVariants.{Fine}
+use Rattle.xbar_report.specs.declared.line.Counts.{Counts}
+use Rattle.crossbar5.specs.declared.written.Status.{Status}
+use Rattle.crossbar5.specs.declared.written.Status.TheVariants.{Fine}
 use Rattle.crossbar5.specs.Audit.{AreRightCounts, IsAuditUnder, counts_after}
-use Rattle.crossbar5_task.specs.declared.forms.DrawForm.{DrawForm}
-use Rattle.crossbar5_task.specs.declared.forms.DrawForm.TheVariants.{Text, Svg, Page}
+use Rattle.crossbar5_task.specs.declared.task.DrawForm.{DrawForm}
+use Rattle.crossbar5_task.specs.declared.task.DrawForm.TheVariants.{Text, Svg, Page}
 
 -- the drawing of an office after its records; a page shows the office after each of them
 abbrev pub drawn : DrawForm → Tables → List Path → List Record → List ℕ

@@ -5,7 +5,7 @@ use Rattle.crossbar5.specs.PlanPlaces.{ShowsPlaceIn}
 use Rattle.crossbar5.specs.PlanRefusal.{IsPlanRefusal, PlanRead}
 use Rattle.crossbar5.specs.declared.input.Input.{Input}
 use Rattle.crossbar5.specs.declared.input.Input.TheVariants.{Read, Refused}
-use Rattle.crossbar5.specs.declared.plan_source.PlanSource.{PlanSource}
+use Rattle.crossbar5.specs.declared.input.PlanSource.{PlanSource}
 
 -- the tables are those of the plan, and the bytes are all that the source had left, if that is
 -- known; or the plan is refused, and what is written says so

@@ -1,6 +1,6 @@
 use Rattle.std.specs.Prelude.{◌≡◌, ℕ, ◌==◌, ◌||◌, Bool, IsTrue, List, [], false, length, map, true}
-use Rattle.xbar_moves.specs.declared.kind.Kind.{Kind}
-use Rattle.xbar_moves.specs.declared.kind.Kind.TheVariants.{Dial, Completing, Combined}
+use Rattle.xbar_moves.specs.declared.kinds.Kind.{Kind}
+use Rattle.xbar_moves.specs.declared.kinds.Kind.TheVariants.{Dial, Completing, Combined}
 use Rattle.crossbar5_task.specs.Tasks.{is_on_rows}
 use Rattle.crossbar5_task.specs.declared.task.Task.{Task}
 use Rattle.xbar_moves.specs.Kinds.{IsMarkerCount, combined_pair}

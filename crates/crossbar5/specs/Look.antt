@@ -3,23 +3,23 @@ use Rattle.std.specs.Prelude.{◌≡◌, ◌⊎◌, ℕ, ◌-◌, Option, Some, 
 use Rattle.csv.specs.Reading.{default_config, records as csv_records, strip_bom}
 use Rattle.xbar_plan.specs.Tables.{Tables}
 use Rattle.xbar_moves.specs.Exchange.{Exchange, Marker, fresh_exchange, is_idle}
-use Rattle.xbar_moves.specs.declared.kind.Kind.{Kind}
+use Rattle.xbar_moves.specs.declared.kinds.Kind.{Kind}
 use Rattle.xbar_office.specs.Legal.{after}
 use Rattle.xbar_office_drawing.specs.Drawing.{office_drawing}
 use Rattle.xbar_look.specs.Look.{look_object, look_words}
 use Rattle.xbar_traffic.specs.Fault.{fault_line}
 use Rattle.xbar_traffic.specs.Traffic.{IsTrafficOf}
 use Rattle.xbar_traffic.specs.declared.fault.RowFault.{RowFault}
-use Rattle.xbar_traffic.specs.declared.mode.Mode.TheVariants.{Replay}
+use Rattle.xbar_traffic.specs.declared.row.Mode.TheVariants.{Replay}
 use Rattle.xbar_traffic.specs.declared.row.Row.{Row}
 use Rattle.xbar_walk.specs.Items.{walk_text_of}
 use Rattle.xbar_walk.specs.declared.detail.Detail.TheVariants.{JsonList}
-use Rattle.crossbar5.specs.declared.status.Status.{Status}
+use Rattle.crossbar5.specs.declared.written.Status.{Status}
 use Rattle.crossbar5.specs.Rows.{after_rows}
 use Rattle.crossbar5.specs.Run.{Leaves, Outcome, RefusesTraffic, outcome_status, reached}
 use Rattle.crossbar5.specs.Walk.{begun_at, walk_after_rows}
-use Rattle.crossbar5_task.specs.declared.forms.LookForm.{LookForm}
-use Rattle.crossbar5_task.specs.declared.forms.LookForm.TheVariants.{Words, Json, Svg}
+use Rattle.crossbar5_task.specs.declared.task.LookForm.{LookForm}
+use Rattle.crossbar5_task.specs.declared.task.LookForm.TheVariants.{Words, Json, Svg}
 
 -- all markers are idle: nothing is left for a settling to do
 abbrev pub AreIdle : Exchange → Type 0

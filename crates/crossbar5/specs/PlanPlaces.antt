@@ -1,13 +1,13 @@
 -- Where the diagnostics of refused plans point.
 use Rattle.std.specs.Prelude.{◌≡◌, Option, None, Some, Ok}
-use Rattle.xbar_plan.specs.declared.list.PlanList.{PlanList}
+use Rattle.xbar_plan.specs.declared.table_fault.PlanList.{PlanList}
 use Rattle.xbar_plan_text.specs.Refusal.{Item, PointsTo, malformed_in, missing_in}
 use Rattle.xbar_plan_text.specs.declared.refusal.PlanRefusal.{PlanRefusal}
 use Rattle.xbar_diagnostics.specs.declared.plan.PlanDiagnostic.{PlanDiagnostic}
 use Rattle.crossbar5.specs.Refusal.{Explanation}
-use Rattle.crossbar5.specs.declared.diagnostic.Diagnostic.TheVariants.{Plan}
-use Rattle.crossbar5.specs.declared.plan_source.PlanSource.{PlanSource}
-use Rattle.crossbar5.specs.declared.plan_source.PlanSource.TheVariants.{Example, Text}
+use Rattle.crossbar5.specs.declared.written.Diagnostic.TheVariants.{Plan}
+use Rattle.crossbar5.specs.declared.input.PlanSource.{PlanSource}
+use Rattle.crossbar5.specs.declared.input.PlanSource.TheVariants.{Example, Text}
 
 -- the first list that is missing in the plan of a source; the example plan has them all
 abbrev pub missing_of : PlanSource → Option PlanList

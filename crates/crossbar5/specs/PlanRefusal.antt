@@ -4,10 +4,10 @@ use Rattle.xbar_plan.specs.Example.{example}
 use Rattle.xbar_plan.specs.Fault.{fault_text}
 use Rattle.xbar_plan.specs.Tables.{Tables}
 use Rattle.xbar_plan.specs.declared.fault.PlanFault.{PlanFault}
-use Rattle.crossbar5.specs.declared.plan_source.PlanSource.{PlanSource}
-use Rattle.crossbar5.specs.declared.plan_source.PlanSource.TheVariants.{Example, Text}
-use Rattle.crossbar5.specs.declared.status.Status.{Status}
-use Rattle.crossbar5.specs.declared.status.Status.TheVariants.{PlanRefused}
+use Rattle.crossbar5.specs.declared.input.PlanSource.{PlanSource}
+use Rattle.crossbar5.specs.declared.input.PlanSource.TheVariants.{Example, Text}
+use Rattle.crossbar5.specs.declared.written.Status.{Status}
+use Rattle.crossbar5.specs.declared.written.Status.TheVariants.{PlanRefused}
 
 -- a plan as it is read: its tables, or its fault
 abbrev pub PlanRead : Type 0

@@ -4,10 +4,10 @@ use Rattle.std.specs.declared.alloc.AllocError.{AllocError}
 use Rattle.xbar_plan_text.specs.Refusal.{fault_of}
 use Rattle.xbar_traffic.specs.Fault.{fault_line}
 use Rattle.crossbar5.specs.PlanRefusal.{plan_fault_line}
-use Rattle.crossbar5.specs.declared.diagnostic.Diagnostic.{Diagnostic}
-use Rattle.crossbar5.specs.declared.diagnostic.Diagnostic.TheVariants.{Plan, Report, Traffic}
-use Rattle.crossbar5.specs.declared.status.Status.{Status}
-use Rattle.crossbar5.specs.declared.status.Status.TheVariants.{PlanRefused, ReportRefused, TrafficRefused}
+use Rattle.crossbar5.specs.declared.written.Diagnostic.{Diagnostic}
+use Rattle.crossbar5.specs.declared.written.Diagnostic.TheVariants.{Plan, Report, Traffic}
+use Rattle.crossbar5.specs.declared.written.Status.{Status}
+use Rattle.crossbar5.specs.declared.written.Status.TheVariants.{PlanRefused, ReportRefused, TrafficRefused}
 
 -- the line that reports that a text of records is refused at this line
 abbrev pub report_fault_line : ℕ → List ℕ

@@ -2,8 +2,8 @@ use Rattle.std.specs.Prelude.{◌≡◌, Option, Some, None, List, [], ◌∷◌
 use Rattle.xbar_plan.specs.Tables.{Tables}
 use Rattle.xbar_moves.specs.Exchange.{Exchange, Marker}
 use Rattle.xbar_moves.specs.Moves.{assigned, refusal, steps}
-use Rattle.xbar_moves.specs.declared.assign_fault.AssignFault.{AssignFault}
-use Rattle.xbar_moves.specs.declared.assign_fault.AssignFault.TheVariants as assign
+use Rattle.xbar_moves.specs.declared.kinds.AssignFault.{AssignFault}
+use Rattle.xbar_moves.specs.declared.kinds.AssignFault.TheVariants as assign
 use Rattle.xbar_traffic.specs.declared.fault.MarkerFault.{MarkerFault}
 use Rattle.xbar_traffic.specs.declared.fault.MarkerFault.TheVariants.{NoMarker, NotIdle, WrongKind}
 use Rattle.xbar_traffic.specs.declared.row.Row.{Row}

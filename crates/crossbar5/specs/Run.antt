@@ -8,19 +8,19 @@ use Rattle.xbar_office.specs.Legal.{IsLegal, after}
 use Rattle.xbar_jobs.specs.Office.{ShowsOffice}
 use Rattle.xbar_moves.specs.Exchange.{Exchange, Marker, OfPlan, is_idle, fresh_exchange}
 use Rattle.xbar_moves.specs.Settling.{settled}
-use Rattle.xbar_moves.specs.declared.kind.Kind.{Kind}
+use Rattle.xbar_moves.specs.declared.kinds.Kind.{Kind}
 use Rattle.xbar_traffic.specs.Fault.{fault_line}
 use Rattle.xbar_traffic.specs.Traffic.{IsTrafficOf}
 use Rattle.xbar_traffic.specs.declared.fault.MarkerFault.{MarkerFault}
 use Rattle.xbar_traffic.specs.declared.fault.RowFault.{RowFault}
 use Rattle.xbar_traffic.specs.declared.fault.RowFault.TheVariants.{Marker as AtMarker}
 use Rattle.xbar_traffic.specs.declared.fault.TrafficFault.{TrafficFault}
-use Rattle.xbar_traffic.specs.declared.mode.Mode.TheVariants.{Replay}
+use Rattle.xbar_traffic.specs.declared.row.Mode.TheVariants.{Replay}
 use Rattle.xbar_traffic.specs.declared.row.Row.{Row}
 use Rattle.xbar_report.specs.Text.{report_text}
 use Rattle.crossbar5.specs.PlanRefusal.{IsAnswerOf, PlanRead}
-use Rattle.crossbar5.specs.declared.status.Status.{Status}
-use Rattle.crossbar5.specs.declared.status.Status.TheVariants.{Fine, TrafficRefused}
+use Rattle.crossbar5.specs.declared.written.Status.{Status}
+use Rattle.crossbar5.specs.declared.written.Status.TheVariants.{Fine, TrafficRefused}
 use Rattle.crossbar5.specs.Rows.{done, row_fault}
 
 -- the outcome of traffic: it is refused, or it leaves an office

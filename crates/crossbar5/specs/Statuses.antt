@@ -1,6 +1,6 @@
 use Rattle.std.specs.Prelude.{ℕ}
-use Rattle.crossbar5.specs.declared.status.Status.{Status}
-use Rattle.crossbar5.specs.declared.status.Status.TheVariants.{Fine, FoundWrong, PlanRefused, ReportRefused, TrafficRefused}
+use Rattle.crossbar5.specs.declared.written.Status.{Status}
+use Rattle.crossbar5.specs.declared.written.Status.TheVariants.{Fine, FoundWrong, PlanRefused, ReportRefused, TrafficRefused}
 
 -- the number of a status: the program's exit status, and the status of the library's answer
 abbrev pub status_number : Status → ℕ

@@ -1,5 +1,5 @@
 use Rattle.std.specs.Prelude.{ℕ, List}
-use Rattle.xbar_moves.specs.declared.kind.Kind.{Kind}
+use Rattle.xbar_moves.specs.declared.kinds.Kind.{Kind}
 use Rattle.xbar_plan.specs.Tables.{Tables}
 use Rattle.crossbar5_task.specs.declared.task.Task.{Task}
 use Rattle.crossbar5_task.specs.declared.task.Task.TheVariants.{Replay, Walk, Look, Audit, Draw}
@@ -9,7 +9,7 @@ use Rattle.crossbar5.specs.Look.{IsLookUnder}
 use Rattle.crossbar5.specs.PlanRefusal.{IsAnswerOf, PlanRead}
 use Rattle.crossbar5.specs.Run.{IsReplayUnder}
 use Rattle.crossbar5.specs.Walk.{IsWalkUnder, detail_of}
-use Rattle.crossbar5.specs.declared.status.Status.{Status}
+use Rattle.crossbar5.specs.declared.written.Status.{Status}
 
 -- under a plan's tables, the text and the status are those of the task on this input, with markers
 -- of these kinds if it needs markers

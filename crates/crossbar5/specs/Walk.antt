@@ -4,20 +4,20 @@ use Rattle.csv.specs.Reading.{default_config, records as csv_records, strip_bom}
 use Rattle.xbar_plan.specs.Tables.{Tables}
 use Rattle.xbar_moves.specs.Exchange.{Exchange, fresh_exchange}
 use Rattle.xbar_moves.specs.Moves.{assigned}
-use Rattle.xbar_moves.specs.declared.kind.Kind.{Kind}
+use Rattle.xbar_moves.specs.declared.kinds.Kind.{Kind}
 use Rattle.xbar_traffic.specs.Fault.{fault_line}
 use Rattle.xbar_traffic.specs.Traffic.{IsTrafficOf}
 use Rattle.xbar_traffic.specs.declared.fault.RowFault.{RowFault}
-use Rattle.xbar_traffic.specs.declared.mode.Mode.TheVariants.{Replay}
+use Rattle.xbar_traffic.specs.declared.row.Mode.TheVariants.{Replay}
 use Rattle.xbar_traffic.specs.declared.row.Row.{Row}
 use Rattle.xbar_traffic.specs.declared.row.Row.TheVariants.{Assign, Steps, Call}
 use Rattle.xbar_walk.specs.Items.{assignment_item, walk_text_of}
 use Rattle.xbar_walk.specs.Walks.{Walk, walk_of_settling, walk_of_steps}
 use Rattle.xbar_walk.specs.declared.detail.Detail.{Detail}
 use Rattle.xbar_walk.specs.declared.detail.Detail.TheVariants as detail
-use Rattle.crossbar5_task.specs.declared.forms.WalkForm.{WalkForm}
-use Rattle.crossbar5_task.specs.declared.forms.WalkForm.TheVariants as form
-use Rattle.crossbar5.specs.declared.status.Status.{Status}
+use Rattle.crossbar5_task.specs.declared.task.WalkForm.{WalkForm}
+use Rattle.crossbar5_task.specs.declared.task.WalkForm.TheVariants as form
+use Rattle.crossbar5.specs.declared.written.Status.{Status}
 use Rattle.crossbar5.specs.Run.{Leaves, Outcome, RefusesTraffic, outcome, outcome_status}
 
 -- how a walk of this form describes events

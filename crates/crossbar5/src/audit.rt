@@ -6,7 +6,7 @@ ghost use Rattle.xbar_office.specs.Legal.{HaveTurns, IsLegal, after};
 ghost use Rattle.xbar_office.specs.declared.reply.Record.{Record as TheRecord};
 ghost use Rattle.xbar_report.specs.Sheet.{IsReport};
 ghost use Rattle.xbar_report.specs.Text.{records_text};
-ghost use Rattle.xbar_report.specs.declared.counts.Counts.{Counts as TheCounts};
+ghost use Rattle.xbar_report.specs.declared.line.Counts.{Counts as TheCounts};
 ghost use Rattle.crossbar5.specs.Refusal.{ReportsFaultOf};
 ghost use Rattle.crossbar5.specs.Audit.{AreRightCounts, IsAuditUnder, IsFoundIn, IsFoundOf, finding_status, finding_text};
 

@@ -5,7 +5,7 @@ ghost use Rattle.xbar_office.specs.Legal.{after};
 ghost use Rattle.xbar_office.specs.declared.reply.Record.{Record as TheRecord};
 ghost use Rattle.xbar_report.specs.Sheet.{IsReport, IsReportText};
 ghost use Rattle.xbar_report.specs.Text.{records_text};
-ghost use Rattle.xbar_report.specs.declared.counts.Counts.{Counts as TheCounts};
+ghost use Rattle.xbar_report.specs.declared.line.Counts.{Counts as TheCounts};
 ghost use Rattle.crossbar5.specs.Draw.{IsDrawUnder, drawn as drawn_by};
 
 use crate::audit::{audit_text, office_after};

@@ -6,14 +6,21 @@ ghost use Rattle.std.specs.Io.KnownBytes.{IsAtEnd};
 ghost use Rattle.counted_io.specs.Counts.{HasFailed, ReadsUsedUp};
 ghost use Rattle.crossbar5.specs.PlanPlaces.{ShowsPlaceIn};
 ghost use Rattle.crossbar5.specs.PlanRefusal.{IsRefusedPlan, plan_in};
-ghost use Rattle.crossbar5.specs.Tasks.{IsDone};
+ghost use Rattle.crossbar5.specs.Tasks.{IsDone, IsDoneUnder};
+ghost use Rattle.crossbar5.specs.Walk.{detail_of as detail_for};
 
-use crate::tasks::written;
+use crate::audit::audit_text;
+use crate::draw::draw_text;
+use crate::looks::look;
+use crate::run::replay;
+use crate::walk::walk;
 use crate::{EngineFault, Input, PlanSource, Written, read_input};
 use counted_io::Source;
-use crossbar5_task::Task;
-use std::alloc::Global;
+use crossbar5_task::{Task, WalkForm};
+use std::alloc::{AllocError, Global};
 use xbar_moves::Kinds;
+use xbar_plan::Plan;
+use xbar_walk::Detail;
 
 /// Does a task with this plan and all that the source gives. `kinds` are those of the markers,
 /// marker 0 first; they count only for tasks on rows.
@@ -45,5 +52,36 @@ pub fn do_task<R: Source>(
     match read_input(alloc, plan, source)? {
         Input::Read { plan, bytes } => Ok(written(alloc, task, &plan, kinds, &bytes)?),
         Input::Refused(written) => Ok(written),
+    }
+}
+
+/// Does the task with this plan, markers of these kinds and the whole input. The kinds don't count for records.
+fn written(
+    alloc: Global,
+    task: Task,
+    plan: &Plan,
+    kinds: &Kinds,
+    input: &[u8],
+) -> Result<Written, AllocError>
+    ensures { IfOk result (λ written.
+        IsDoneUnder task kinds.now plan.now input.now written.text.items written.status) }
+{
+    match task {
+        Task::Replay => replay(alloc, plan, kinds, input),
+        Task::Walk(form) => walk(alloc, plan, kinds, detail_of(form), input),
+        Task::Look(form) => look(alloc, plan, kinds, form, input),
+        Task::Audit => audit_text(alloc, plan, input),
+        Task::Draw(form) => draw_text(alloc, plan, form, input),
+    }
+}
+
+/// How a walk of this form describes events.
+fn detail_of(form: WalkForm) -> Detail
+    ensures { result ≡ detail_for form }
+{
+    match form {
+        WalkForm::Each => Detail::Each,
+        WalkForm::Short => Detail::Short,
+        WalkForm::Json => Detail::JsonLines,
     }
 }

@@ -9,16 +9,40 @@ ghost use Rattle.crossbar5.specs.PlanPlaces.{IsOnRefusal};
 ghost use Rattle.crossbar5.specs.PlanRefusal.{IsPlanRefusal, IsRefusedPlan, plan_fault_line, plan_in};
 ghost use Rattle.crossbar5.specs.Refusal.{ReportsFaultOf};
 
-use crate::diagnostic::Diagnostic;
 use crate::engine_fault::EngineFault;
-use crate::plan_source::PlanSource;
-use crate::status::Status;
-use crate::written::Written;
+use crate::written::{Diagnostic, Status, Written};
 use counted_io::{Source, read_all};
 use std::alloc::{AllocError, Global};
 use xbar_diagnostics::PlanDiagnostic;
 use xbar_plan::{Plan, PlanFault};
-use xbar_plan_text::PlanRefusal;
+use xbar_plan_text::{PlanRefusal, PlanText};
+
+/// Where the plan of an office comes from.
+#[derive(Clone, Copy)]
+pub enum PlanSource<'p> {
+    /// It is the example plan.
+    Example,
+    /// It is read from a text in TOML.
+    Text(&'p [u8]),
+}
+
+impl PlanSource<'_> {
+    ghost use Rattle.xbar_plan_text.specs.Refusal.{IsToldReading};
+    ghost use Rattle.crossbar5.specs.PlanPlaces.{malformed_of, missing_of};
+    ghost use Rattle.crossbar5.specs.PlanRefusal.{plan_in};
+
+    /// The plan, or the first fault of its text and where it is. `Memory` may be returned in place
+    /// of a fault.
+    pub fn read(self, alloc: Global) -> Result<Plan, PlanRefusal>
+        ensures { IsToldReading (plan_in self.entry) (missing_of self.entry) (malformed_of self.entry)
+            result }
+    {
+        match self {
+            PlanSource::Example => Ok(Plan::example(alloc)?),
+            PlanSource::Text(text) => Plan::parse(alloc, text),
+        }
+    }
+}
 
 /// A plan with the bytes of the input, or what is written for a plan that is refused.
 #[derive(Drop)]

@@ -4,7 +4,7 @@ ghost use Rattle.std.specs.Prelude.{◌≡◌, List, None};
 ghost use Rattle.xbar_plan.specs.Tables.{Tables};
 ghost use Rattle.xbar_moves.specs.Exchange.{Exchange};
 ghost use Rattle.xbar_moves.specs.Settling.{settled};
-ghost use Rattle.xbar_moves.specs.declared.kind.Kind.{Kind};
+ghost use Rattle.xbar_moves.specs.declared.kinds.Kind.{Kind};
 ghost use Rattle.xbar_traffic.specs.declared.row.Row.{Row};
 ghost use Rattle.crossbar5.specs.Look.{AreIdle};
 ghost use Rattle.crossbar5.specs.Run.{Leaves, outcome, reached};

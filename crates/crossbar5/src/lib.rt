@@ -7,20 +7,16 @@
 
 pub use counted_io::{Counted, Sink, Source};
 pub use crossbar5_task::{DrawForm, LookForm, Task, WalkForm};
-pub use diagnostic::Diagnostic;
 pub use engine::do_task;
 pub use engine_fault::EngineFault;
-pub use input::{Input, read_input};
+pub use input::{Input, PlanSource, read_input};
 pub use kinds::{kinds_for, kinds_of};
-pub use plan_source::PlanSource;
-pub use runs::run_replay;
-pub use status::Status;
+pub use run::run_replay;
 pub use traffic_refusal::refused;
-pub use written::Written;
+pub use written::{Diagnostic, Status, Written};
 pub use xbar_report::report;
 
 mod audit;
-mod diagnostic;
 mod draw;
 mod engine;
 mod engine_fault;
@@ -29,12 +25,8 @@ mod input;
 mod kinds;
 pub mod laws;
 mod looks;
-mod plan_source;
 mod rows;
 mod run;
-mod runs;
-mod status;
-mod tasks;
 mod traffic_refusal;
 mod walk;
 mod written;

@@ -3,7 +3,7 @@
 ghost use Rattle.std.specs.Prelude.{◌≡◌, ◌-◌, ◌≤◌, IfOk, drop, length, string_bytes};
 ghost use Rattle.xbar_office.specs.Legal.{after};
 ghost use Rattle.xbar_office_drawing.specs.Drawing.{office_drawing as drawing_of};
-ghost use Rattle.crossbar5_task.specs.declared.forms.LookForm.{LookForm};
+ghost use Rattle.crossbar5_task.specs.declared.task.LookForm.{LookForm};
 ghost use Rattle.crossbar5.specs.Look.{BeginsWithComma, IsLookUnder, shown as shown_of};
 
 use crate::audit::office_after;

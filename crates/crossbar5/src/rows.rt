@@ -4,7 +4,7 @@ ghost use Rattle.std.specs.Prelude.{◌≡◌, ◌+◌, ◌<◌, ◌≤◌, ◌^
 ghost use Rattle.xbar_moves.specs.Exchange.{fresh_exchange};
 ghost use Rattle.xbar_moves.specs.Moves.{assigned, refusal, steps};
 ghost use Rattle.xbar_traffic.specs.Row.{IsRow, mode_of};
-ghost use Rattle.xbar_traffic.specs.declared.mode.Mode.{Mode};
+ghost use Rattle.xbar_traffic.specs.declared.row.Mode.{Mode};
 ghost use Rattle.xbar_traffic.specs.declared.row.Row.{Row as TheRow};
 ghost use Rattle.xbar_walk.specs.Observers.{ChangesAs};
 ghost use Rattle.crossbar5.specs.Rows.{IsUnrefusedJob, after_rows, assignment_fault, done, no_marker_fault, row_fault};

@@ -5,9 +5,7 @@ ghost use Rattle.xbar_traffic.specs.Fault.{fault_line};
 ghost use Rattle.crossbar5.specs.Refusal.{ReportsFaultOf};
 ghost use Rattle.crossbar5.specs.TrafficRefusal.{IsTrafficRefusal};
 
-use crate::diagnostic::Diagnostic;
-use crate::status::Status;
-use crate::written::Written;
+use crate::written::{Diagnostic, Status, Written};
 use std::alloc::{AllocError, Global};
 use xbar_diagnostics::{TrafficDiagnostic, traffic_diagnostic};
 use xbar_traffic::{Mode, TrafficFault};

@@ -1,13 +1,13 @@
 -- What a call is answered, and what the caller is given of it.
 use Rattle.std.specs.Prelude.{◌≡◌, ◌++◌, [], ℕ, List, None, Some, drop, if◌then◌else◌, length, nat_le, slice_get}
-use Rattle.xbar_moves.specs.declared.kind.Kind.{Kind}
+use Rattle.xbar_moves.specs.declared.kinds.Kind.{Kind}
 use Rattle.xbar_plan_text.specs.Document.{plan_of}
 use Rattle.crossbar5_task.specs.Tasks.{tasks}
 use Rattle.crossbar5_task.specs.declared.task.Task.{Task}
 use Rattle.crossbar5.specs.Kinds.{NamesFor, RefusesLetters}
 use Rattle.crossbar5.specs.Statuses.{status_number}
 use Rattle.crossbar5.specs.Tasks.{IsDone}
-use Rattle.crossbar5.specs.declared.status.Status.{Status}
+use Rattle.crossbar5.specs.declared.written.Status.{Status}
 use Rattle.crossbar5_c.specs.declared.status.TheConstants.{MARKERS_REFUSED, NO_SUCH_TASK, OUT_OF_MEMORY}
 
 -- the answer to a call for the task of this number: a text, with a status

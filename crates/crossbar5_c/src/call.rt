@@ -4,7 +4,7 @@ ghost use Rattle.std.specs.Prelude.{◌≡◌, IfOk};
 ghost use Rattle.xbar_plan_text.specs.Document.{plan_of};
 ghost use Rattle.crossbar5.specs.Statuses.{status_number};
 ghost use Rattle.crossbar5.specs.Tasks.{IsDone};
-ghost use Rattle.crossbar5.specs.declared.status.Status.{Status as TheStatus};
+ghost use Rattle.crossbar5.specs.declared.written.Status.{Status as TheStatus};
 ghost use Rattle.crossbar5_c.specs.Answer.{IsAnswer};
 
 use crate::answer::Answer;

@@ -1,16 +1,16 @@
 -- What the engine answers, as the program reports it.
 use Rattle.std.proofs.Common.{◌≡◌, ◌≢◌, ℕ, Bool, Bor, List, Option, None, Some, Result, Ok, Err, IfErr, IfOk, IfSome, IsTrue, OnOk, false, inl, inr, option_map}
 use Rattle.std.proofs.Common.{refl, subst, sym}
-use Rattle.{std.specs.{Io.KnownBytes.Keeps, IoError.error_kind, declared.io.Error.Error}, xbar_moves.specs.declared.kind.Kind.Kind}
+use Rattle.{std.specs.{Io.KnownBytes.Keeps, IoError.error_kind, declared.io.Error.Error}, xbar_moves.specs.declared.kinds.Kind.Kind}
 use Rattle.crossbar5.specs.{Faults.ComesFirst, declared.{engine_fault.EngineFault.{EngineFault, TheVariants.{Device, Long, Memory}}, written.Written.Written}}
 use Rattle.crossbar5.specs.{PlanRefusal.{IsRefusedPlan, PlanRead}, Tasks.IsDone}
-use Rattle.crossbar5_cli.specs.declared.{response.Response.Response, checked_work.CheckedWork.{CheckedWork, TheVariants.{Live, Task}}, ending.Ending.Ending}
-use Rattle.crossbar5_cli.specs.{declared.{ending.Ending.TheVariants.Failed, sentence.Sentence.Sentence}, Asks.MayEndAsked, CheckedWork.RefusesMarkers}
+use Rattle.crossbar5_cli.specs.declared.{work.{Response.Response, CheckedWork.{CheckedWork, TheVariants.{Live, Task}}}, ended.Ending.Ending}
+use Rattle.crossbar5_cli.specs.{declared.{ended.Ending.TheVariants.Failed, sentence.Sentence.Sentence}, Asks.MayEndAsked, CheckedWork.RefusesMarkers}
 use Rattle.crossbar5_cli.specs.{Causes.opening_fault, Endings.ending_of_run, Named.{Files, IsFileFault, IsPlanFault, IsPlanNamed, files_of, name_in}}
 use Rattle.crossbar5_cli.specs.{Sentences.{FileName, reasons_of_run, sentence_on_plan_file, sentence_on_run, text_of}, Printed.{IsPut, IsStderrText}}
 use Rattle.crossbar5_cli.specs.{Program.{DoesAsk, Errors}, Runs.{IsEndAsAsked, IsEndOf, Streams}, Work.{IsAnswer, IsDiagnosticOf, IsWorkDone}}
 use Rattle.{crossbar5_task.specs.declared.task.Task.{Task as EngineTask}, xbar_plan_text.specs.Document.plan_of, crossbar5_live.specs.Live.IsLive}
-use Rattle.{crossbar5_command.specs.declared.ask.Ask.Ask, xbar_markers.specs.declared.call_markers.CallMarkers.CallMarkers}
+use Rattle.{crossbar5_command.specs.declared.command_line.Ask.Ask, xbar_markers.specs.declared.call_markers.CallMarkers.CallMarkers}
 
 -- what is done of work of this kind is done
 module _ (work : CheckedWork) (plan : PlanRead) (unread : Option (List ℕ)) (run : Result Written EngineFault) where

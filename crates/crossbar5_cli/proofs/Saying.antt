@@ -2,7 +2,7 @@
 use Rattle.std.proofs.Common.{◌≡◌, ◌++◌, ℕ, List, Option, None, Some, Bor, ap, refl, option_map}
 use Rattle.{std.{proofs.KnownBytes.Appends-trans, specs.Io.KnownBytes.Appends}, clap.specs.declared.error.kind.ErrorKind.ErrorKind}
 use Rattle.crossbar5_cli.specs.{Printed.{IsKnownAs, IsPut, IsRefusalText, IsSentenceLine, IsStderrText, lines_text}, Sentences.{sentence_on_printing, text_of}}
-use Rattle.crossbar5_cli.specs.declared.{ending.Ending.Ending, sentence.Sentence.Sentence}
+use Rattle.crossbar5_cli.specs.declared.{ended.Ending.Ending, sentence.Sentence.Sentence}
 
 -- the line of an ending and the reasons, and then the line of a sentence
 pub all_said : (a b c : Option (List ℕ)) (ending : Ending) (reasons : Option (List ℕ)) (sentence : Option (Option (List ℕ)))

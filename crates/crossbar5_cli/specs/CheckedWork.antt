@@ -3,10 +3,10 @@ use Rattle.std.specs.Prelude.{◌≡◌}
 use Rattle.std.specs.String.{string_bytes}
 use Rattle.xbar_markers.specs.CallMarkers.{AreCallMarkers}
 use Rattle.crossbar5.specs.Kinds.{NamesFor, RefusesLetters}
-use Rattle.crossbar5_command.specs.declared.ask.Work.{Work}
-use Rattle.crossbar5_command.specs.declared.ask.Work.TheVariants as asked
-use Rattle.crossbar5_cli.specs.declared.checked_work.CheckedWork.{CheckedWork}
-use Rattle.crossbar5_cli.specs.declared.checked_work.CheckedWork.TheVariants.{Live, Task}
+use Rattle.crossbar5_command.specs.declared.command_line.Work.{Work}
+use Rattle.crossbar5_command.specs.declared.command_line.Work.TheVariants as asked
+use Rattle.crossbar5_cli.specs.declared.work.CheckedWork.{CheckedWork}
+use Rattle.crossbar5_cli.specs.declared.work.CheckedWork.TheVariants.{Live, Task}
 
 -- the markers that are asked for are refused. A task on records asks for none
 abbrev pub RefusesMarkers : Work → Type 0

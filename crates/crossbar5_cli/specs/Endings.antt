@@ -1,10 +1,10 @@
 use Rattle.std.specs.Prelude.{ℕ, List, Option, Some, None, Result, Ok, Err, codes, ⊤}
 use Rattle.crossbar5.specs.Statuses.{status_number}
-use Rattle.crossbar5_cli.specs.declared.response.Response.{Response}
+use Rattle.crossbar5_cli.specs.declared.work.Response.{Response}
 use Rattle.crossbar5.specs.declared.engine_fault.EngineFault.{EngineFault}
 use Rattle.crossbar5.specs.declared.engine_fault.EngineFault.TheVariants.{Memory, Device, Long}
-use Rattle.crossbar5_cli.specs.declared.ending.Ending.{Ending}
-use Rattle.crossbar5_cli.specs.declared.ending.Ending.TheVariants.{Answered, Printed, Refused, NotText, MarkersRefused, Failed}
+use Rattle.crossbar5_cli.specs.declared.ended.Ending.{Ending}
+use Rattle.crossbar5_cli.specs.declared.ended.Ending.TheVariants.{Answered, Printed, Refused, NotText, MarkersRefused, Failed}
 
 -- how a run of the engine ends
 abbrev pub ending_of_run : Result Response EngineFault → Ending

@@ -9,9 +9,9 @@ use Rattle.crossbar5_command.specs.declared.command_fault.CommandFault.TheVarian
 use Rattle.crossbar5_cli.specs.Endings.{line_of}
 use Rattle.crossbar5_cli.specs.Sentences.{sentence_on_printing, text_of}
 use Rattle.crossbar5_cli.specs.Streams.{stream_of}
-use Rattle.crossbar5_cli.specs.declared.ending.Ending.{Ending}
-use Rattle.crossbar5_cli.specs.declared.stream.Stream.{Stream}
-use Rattle.crossbar5_cli.specs.declared.stream.Stream.TheVariants.{Errors, Output}
+use Rattle.crossbar5_cli.specs.declared.ended.Ending.{Ending}
+use Rattle.crossbar5_cli.specs.declared.help.Stream.{Stream}
+use Rattle.crossbar5_cli.specs.declared.help.Stream.TheVariants.{Errors, Output}
 
 -- a text with this property is appended to what a stream contained, as far as that is known
 abbrev pub IsPut : (List ℕ → Type 0) → Option (List ℕ) → Option (List ℕ) → Type 0

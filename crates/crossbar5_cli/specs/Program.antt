@@ -5,7 +5,7 @@ use Rattle.crossbar5_command.specs.Ask.{IsAskOf, IsAskWith}
 use Rattle.crossbar5_command.specs.Fault.{IsFaultAmong, conflict_of, faults_of}
 use Rattle.crossbar5_command.specs.Program.{program, subcommands}
 use Rattle.crossbar5_command.specs.Subcommand.{AskFor, GivenOption, Subcommand, value_of}
-use Rattle.crossbar5_command.specs.declared.ask.Ask.{Ask}
+use Rattle.crossbar5_command.specs.declared.command_line.Ask.{Ask}
 use Rattle.crossbar5_command.specs.declared.command_fault.CommandFault.{CommandFault}
 use Rattle.crossbar5_command.specs.declared.command_fault.CommandFault.TheVariants.{Memory}
 use Rattle.crossbar5.specs.declared.engine_fault.EngineFault.TheVariants.{Device}
@@ -15,8 +15,8 @@ use Rattle.crossbar5_cli.specs.Named.{Files}
 use Rattle.crossbar5_cli.specs.Sentences.{text_of}
 use Rattle.crossbar5_cli.specs.Streams.{MayEndOf}
 use Rattle.crossbar5_cli.specs.Printed.{HasNoOutput, HasNoSentence, IsHelpTextOf, IsPut, IsStderrText, IsStderrTextOf}
-use Rattle.crossbar5_cli.specs.declared.ending.Ending.{Ending}
-use Rattle.crossbar5_cli.specs.declared.ending.Ending.TheVariants.{Failed, Printed}
+use Rattle.crossbar5_cli.specs.declared.ended.Ending.{Ending}
+use Rattle.crossbar5_cli.specs.declared.ended.Ending.TheVariants.{Failed, Printed}
 use Rattle.crossbar5_cli.specs.declared.sentence.Sentence.{Sentence}
 use Rattle.crossbar5_cli.specs.Runs.{IsEndAsAsked, Streams}
 

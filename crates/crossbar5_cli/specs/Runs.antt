@@ -8,16 +8,16 @@ use Rattle.crossbar5.specs.PlanRefusal.{IsRefusedPlan, PlanRead}
 use Rattle.crossbar5.specs.Refusal.{Explanation}
 use Rattle.crossbar5.specs.declared.engine_fault.EngineFault.{EngineFault}
 use Rattle.crossbar5.specs.declared.engine_fault.EngineFault.TheVariants.{Device, Long, Memory}
-use Rattle.crossbar5.specs.declared.status.Status.{Status}
-use Rattle.crossbar5_command.specs.declared.ask.Ask.{Ask}
-use Rattle.crossbar5_command.specs.declared.ask.Work.{Work}
+use Rattle.crossbar5.specs.declared.written.Status.{Status}
+use Rattle.crossbar5_command.specs.declared.command_line.Ask.{Ask}
+use Rattle.crossbar5_command.specs.declared.command_line.Work.{Work}
 use Rattle.crossbar5_cli.specs.CheckedWork.{IsCheckedOf, RefusesMarkers}
 use Rattle.crossbar5_cli.specs.Sentences.{End, FileName, IsOnMarkers, sentence_on_fault}
 use Rattle.crossbar5_cli.specs.Sentences.{sentence_on_parts, sentence_on_plan_file}
 use Rattle.crossbar5_cli.specs.Named.{Files, IsPlanFault, IsPlanNamed, name_in}
-use Rattle.crossbar5_cli.specs.declared.checked_work.CheckedWork.{CheckedWork}
-use Rattle.crossbar5_cli.specs.declared.ending.Ending.{Ending}
-use Rattle.crossbar5_cli.specs.declared.ending.Ending.TheVariants.{Answered, Failed, MarkersRefused}
+use Rattle.crossbar5_cli.specs.declared.work.CheckedWork.{CheckedWork}
+use Rattle.crossbar5_cli.specs.declared.ended.Ending.{Ending}
+use Rattle.crossbar5_cli.specs.declared.ended.Ending.TheVariants.{Answered, Failed, MarkersRefused}
 use Rattle.crossbar5_cli.specs.declared.sentence.Sentence.{Sentence}
 use Rattle.crossbar5_cli.specs.Work.{IsAnswer, IsDiagnosticOf}
 

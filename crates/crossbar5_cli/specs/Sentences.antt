@@ -7,18 +7,18 @@ use Rattle.std.specs.declared.io.Error.{Error}
 use Rattle.clap.specs.declared.error.kind.ErrorKind.{ErrorKind}
 use Rattle.clap.specs.declared.error.kind.ErrorKind.TheVariants.{ValueValidation}
 use Rattle.crossbar5.specs.Refusal.{Explanation}
-use Rattle.crossbar5_cli.specs.declared.response.Response.{Response}
+use Rattle.crossbar5_cli.specs.declared.work.Response.{Response}
 use Rattle.crossbar5.specs.declared.engine_fault.EngineFault.{EngineFault}
 use Rattle.crossbar5.specs.declared.engine_fault.EngineFault.TheVariants.{Memory, Device, Long}
-use Rattle.crossbar5.specs.declared.diagnostic.Diagnostic.{Diagnostic}
-use Rattle.crossbar5.specs.declared.diagnostic.Diagnostic.TheVariants as diagnostic
-use Rattle.crossbar5.specs.declared.status.Status.{Status}
-use Rattle.crossbar5.specs.declared.status.Status.TheVariants.{FoundWrong, PlanRefused, ReportRefused, TrafficRefused}
+use Rattle.crossbar5.specs.declared.written.Diagnostic.{Diagnostic}
+use Rattle.crossbar5.specs.declared.written.Diagnostic.TheVariants as diagnostic
+use Rattle.crossbar5.specs.declared.written.Status.{Status}
+use Rattle.crossbar5.specs.declared.written.Status.TheVariants.{FoundWrong, PlanRefused, ReportRefused, TrafficRefused}
 use Rattle.xbar_diagnostics.specs.Kinds.{wrong_in}
-use Rattle.crossbar5_command.specs.declared.ask.Work.{Work}
-use Rattle.crossbar5_command.specs.declared.ask.Work.TheVariants.{Live, Task}
-use Rattle.crossbar5_cli.specs.declared.ending.Ending.{Ending}
-use Rattle.crossbar5_cli.specs.declared.ending.Ending.TheVariants.{Answered, Failed, MarkersRefused, Refused}
+use Rattle.crossbar5_command.specs.declared.command_line.Work.{Work}
+use Rattle.crossbar5_command.specs.declared.command_line.Work.TheVariants.{Live, Task}
+use Rattle.crossbar5_cli.specs.declared.ended.Ending.{Ending}
+use Rattle.crossbar5_cli.specs.declared.ended.Ending.TheVariants.{Answered, Failed, MarkersRefused, Refused}
 use Rattle.crossbar5_cli.specs.declared.sentence.Sentence.{Sentence}
 use Rattle.crossbar5_cli.specs.declared.sentence.Sentence.TheVariants.{Kinds, LiveMarkers, NotMarkerCount, Plan, Traffic, Report, NothingDrawn, PlanUnreadable, PlanTooLong, InputUnreadable, InputTooLong, OutputUnwritable}
 

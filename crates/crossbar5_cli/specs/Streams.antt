@@ -5,10 +5,10 @@ use Rattle.clap.specs.declared.error.kind.ErrorKind.TheVariants.{DisplayHelp, Di
 use Rattle.crossbar5.specs.declared.engine_fault.EngineFault.TheVariants.{Memory, Device}
 use Rattle.crossbar5_command.specs.declared.command_fault.CommandFault.{CommandFault}
 use Rattle.crossbar5_command.specs.declared.command_fault.CommandFault.TheVariants as command
-use Rattle.crossbar5_cli.specs.declared.ending.Ending.{Ending}
-use Rattle.crossbar5_cli.specs.declared.ending.Ending.TheVariants.{Printed, Refused, Failed}
-use Rattle.crossbar5_cli.specs.declared.stream.Stream.{Stream}
-use Rattle.crossbar5_cli.specs.declared.stream.Stream.TheVariants.{Output, Errors}
+use Rattle.crossbar5_cli.specs.declared.ended.Ending.{Ending}
+use Rattle.crossbar5_cli.specs.declared.ended.Ending.TheVariants.{Printed, Refused, Failed}
+use Rattle.crossbar5_cli.specs.declared.help.Stream.{Stream}
+use Rattle.crossbar5_cli.specs.declared.help.Stream.TheVariants.{Output, Errors}
 
 -- the stream of clap's text of this kind: standard output for help and the version
 abbrev pub stream_of : ErrorKind → Stream

@@ -4,12 +4,12 @@ use Rattle.std.specs.Io.KnownBytes.{Appends}
 use Rattle.crossbar5.specs.PlanRefusal.{PlanRead}
 use Rattle.crossbar5.specs.Refusal.{Explanation, ReportsFaultOf}
 use Rattle.crossbar5.specs.Tasks.{IsDone}
-use Rattle.crossbar5.specs.declared.status.Status.{Status}
-use Rattle.crossbar5.specs.declared.status.Status.TheVariants.{Fine}
+use Rattle.crossbar5.specs.declared.written.Status.{Status}
+use Rattle.crossbar5.specs.declared.written.Status.TheVariants.{Fine}
 use Rattle.crossbar5_task.specs.declared.task.Task.TheVariants.{Draw}
 use Rattle.crossbar5_live.specs.Live.{IsLive}
-use Rattle.crossbar5_cli.specs.declared.checked_work.CheckedWork.{CheckedWork}
-use Rattle.crossbar5_cli.specs.declared.checked_work.CheckedWork.TheVariants.{Live, Task}
+use Rattle.crossbar5_cli.specs.declared.work.CheckedWork.{CheckedWork}
+use Rattle.crossbar5_cli.specs.declared.work.CheckedWork.TheVariants.{Live, Task}
 
 -- with a plan as it was read and this input, the work has this text and this status
 abbrev pub IsWorkDone : CheckedWork → PlanRead → List ℕ → List ℕ → Status → Type 0

@@ -4,7 +4,7 @@ ghost use Rattle.std.specs.Prelude.{◌≡◌};
 ghost use Rattle.std.specs.IoError.{error_kind};
 ghost use Rattle.crossbar5_cli.specs.Causes.{opening_fault, words_ending};
 
-use crate::ending::Ending;
+use crate::ended::Ending;
 use crossbar5::EngineFault;
 use std::io;
 use std::io::ErrorKind;

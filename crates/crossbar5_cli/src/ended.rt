@@ -1,18 +1,107 @@
+//! How a run of the program ends: its exit status, and what it writes on standard error.
+
 ghost use Rattle.std.specs.Prelude.{◌≡◌, None, Some, option_map};
 ghost use Rattle.crossbar5.specs.Refusal.{HasItsStatus, status_of};
-ghost use Rattle.crossbar5_cli.specs.Endings.{ending_of_run};
+ghost use Rattle.crossbar5_cli.specs.Endings.{ending_of_run, exit_of, line_of};
 ghost use Rattle.crossbar5_cli.specs.Sentences as specs;
 ghost use Rattle.crossbar5_cli.specs.Sentences.{SpeaksOf, reasons_of_run};
+ghost use Rattle.crossbar5.specs.declared.engine_fault.EngineFault.TheVariants.{Memory};
+ghost use Rattle.crossbar5_cli.specs.declared.ended.Ending.TheVariants.{Failed};
+ghost use Rattle.std.specs.Process.{exit_status};
 
-use crate::ending::Ending;
-use crate::response::Response;
 use crate::sentence::Sentence;
+use crate::work::Response;
 use clap::error::ErrorKind;
 use crossbar5::{Diagnostic, EngineFault, Status};
 use crossbar5_command::Work;
 use std::alloc::AllocError;
 use std::io;
+use std::process::ExitCode;
 use xbar_diagnostics::kinds_diagnostic;
+
+/// How a run of the program ends.
+#[derive(Clone, Copy, Debug, PartialEq, Eq)]
+pub enum Ending {
+    /// The engine answered with this status.
+    Answered(Status),
+    /// Help or the version was printed.
+    Printed,
+    /// The words of the command line are refused.
+    Refused,
+    /// A word of the command line is not UTF-8 text.
+    NotText,
+    /// The markers that are asked for are refused.
+    MarkersRefused,
+    /// Memory ran out, a device failed, or an input is too long.
+    Failed(EngineFault),
+}
+
+impl From<AllocError> for Ending {
+    ghost from_gives = { λ _ ending. ending ≡ Failed Memory };
+
+    fn from(_error: AllocError) -> Self {
+        Ending::Failed(EngineFault::Memory)
+    }
+}
+
+impl Ending {
+    /// The exit status.
+    pub fn status(self) -> u8
+        ensures { result ≡ exit_of self }
+    {
+        match self {
+            Ending::Answered(status) => status.number(),
+            Ending::Printed => 0,
+            Ending::Refused | Ending::NotText | Ending::MarkersRefused => 2,
+            Ending::Failed(fault) => match fault {
+                EngineFault::Long => 4,
+                EngineFault::Memory => 5,
+                EngineFault::Device => 6,
+            },
+        }
+    }
+
+    /// The line to write on standard error, if there is one.
+    pub fn line(self) -> Option<&'static str>
+        ensures { option_map (λ line. line.now) result ≡ line_of self }
+    {
+        let line = match self {
+            Ending::Answered(_) | Ending::Printed | Ending::Refused => return None,
+            Ending::NotText => "error: a word of the command line is not UTF-8 text",
+            Ending::MarkersRefused => "FAULT,MARKERS",
+            Ending::Failed(fault) => match fault {
+                EngineFault::Long => "FAULT,LONG",
+                EngineFault::Memory => "FAULT,MEMORY",
+                EngineFault::Device => "FAULT,DEVICE",
+            },
+        };
+        Some(line)
+    }
+}
+
+/// How the program ended, and whether all messages were written.
+#[derive(Clone, Copy, Debug, PartialEq, Eq)]
+pub struct Exit {
+    pub ending: Ending,
+    /// Whether all that belongs on standard error was written there.
+    pub is_printed: bool,
+}
+
+impl Exit {
+    /// The exit status.
+    pub fn status(self) -> u8
+        ensures { result ≡ exit_of self.ending }
+    {
+        self.ending.status()
+    }
+
+    /// The exit status, for `main` to return.
+    pub fn code(self) -> ExitCode
+        ensures { exit_status result ≡ exit_of self.ending }
+    {
+        ExitCode::from(self.status())
+    }
+}
 
 /// How a run of the program ends, with what is to be written on standard error.
 #[derive(Debug, Drop)]

@@ -3,15 +3,31 @@
 ghost use Rattle.std.specs.Prelude.{◌≡◌, ◌≢◌, ◌⊎◌, Err, IfErr, IfOk, OnOk};
 ghost use Rattle.counted_io.specs.Counts.{HasFailed};
 ghost use Rattle.crossbar5_cli.specs.Printed.{IsHelpText, IsPut};
-ghost use Rattle.crossbar5_cli.specs.Streams.{MayEndOn};
+ghost use Rattle.crossbar5_cli.specs.Streams.{MayEndOn, stream_of as stream_of_kind};
 
-use crate::ending::Ending;
-use crate::stream::Stream;
+use crate::ended::Ending;
 use clap::error::ErrorKind;
 use counted_io::{Sink, write_all};
 use crossbar5::EngineFault;
 use std::alloc::{AllocError, Global};
 use std::fmt::Display;
+
+/// A stream that texts are written on.
+#[derive(Clone, Copy, Debug, PartialEq, Eq)]
+pub enum Stream {
+    Output,
+    Errors,
+}
+
+/// The stream of clap's text of this kind: standard output for help and the version.
+pub fn stream_of(kind: ErrorKind) -> Stream
+    ensures { result ≡ stream_of_kind kind }
+{
+    match kind {
+        ErrorKind::DisplayHelp | ErrorKind::DisplayVersion => Stream::Output,
+        _ => Stream::Errors,
+    }
+}
 
 /// Writes help, or the version and its last line `build`. Returns how that ended.
 pub fn show<D: Display, W: Sink>(

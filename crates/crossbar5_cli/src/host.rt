@@ -1,18 +1,17 @@
-//! Runs `run_words` on the real words, files and streams.
+//! The program on the real words, files and streams.
 
-ghost use Rattle.std.specs.Prelude.{◌≡◌};
+ghost use Rattle.std.specs.Prelude.{◌≡◌, ℕ, List, Result, ⊤};
 ghost use Rattle.std.specs.Process.{exit_status};
 ghost use Rattle.crossbar5_cli.specs.Endings.{exit_of};
-ghost use Rattle.crossbar5_cli.specs.declared.ending.Ending.{Ending as TheEnding};
+ghost use Rattle.crossbar5_cli.specs.declared.ended.Ending.{Ending as TheEnding};
+ghost use Rattle.std.specs.declared.io.Error.{Error};
 
+use crate::asked::run_words;
 use crate::causes::ending_without_words;
-use crate::checked_work::CheckedWork;
-use crate::program::run_words;
 use crate::progress::Progress;
-use crate::system::System;
-use crate::work::input_of;
+use crate::work::{CheckedWork, input_of};
 use crate::{Ended, Exit, finish};
-use counted_io::Counted;
+use counted_io::{Counted, Source};
 use std::alloc::AllocError;
 use std::fs::File;
 use std::io::IsTerminal;
@@ -20,6 +19,26 @@ use std::process::ExitCode;
 use std::sync::Wait;
 use std::thread::{Threads, join};
 use std::{env, io};
+
+/// What the program uses of the system besides its streams.
+pub trait System {
+    /// An open file.
+    type File: Source + Drop;
+
+    // Opening the file of this name may give this. A system of which nothing is known may give
+    // anything.
+    ghost Opens: { Self → List ℕ → Result Self.File Error → Type 0 } = { λ _ _ _. ⊤ };
+
+    /// Opens the file of this name.
+    fn open(&self, name: &str) -> io::Result<Self::File>
+        ensures { Opens self.now name.now result };
+
+    /// Called before the input of this work is read.
+    fn begin(&self, work: &CheckedWork);
+
+    /// Called when the work is done, before any message is written.
+    fn end(&self);
+}
 
 /// Runs the program and returns its exit status. `threads` starts the threads of live calls and of
 /// the progress line; it may be the runtime itself. `build`, the last line of `--version`, names

@@ -8,12 +8,9 @@ ghost use Rattle.crossbar5_cli.specs.Streams.{MayEndOf, MayEndOn, stream_of as s
 ghost use Rattle.crossbar5_cli.specs.Printed as specs;
 ghost use Rattle.crossbar5_cli.specs.Printed.{IsPut};
 
-use crate::ended::Ended;
-use crate::ending::Ending;
-use crate::exit::Exit;
-use crate::help::show;
+use crate::ended::{Ended, Ending, Exit};
+use crate::help::{Stream, show, stream_of};
 use crate::one_line::one_line;
-use crate::stream::{Stream, stream_of};
 use clap::error::ErrorKind;
 use counted_io::{Sink, write_all};
 use crossbar5::EngineFault;

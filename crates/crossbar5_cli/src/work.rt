@@ -1,20 +1,83 @@
-//! Doing the work that a command line asks for.
+//! The work that a command line asks for, and how it is done.
 
-ghost use Rattle.std.specs.Prelude.{◌≡◌, ◌≢◌, ◌⊎◌, ℕ, Err, IfErr, IfOk, IfSome, List, OnOk};
+ghost use Rattle.std.specs.Prelude.{◌≡◌, ◌≢◌, ◌⊎◌, ℕ, Err, IfErr, IfOk, IfSome, List, OnOk, ◌↔◌, None};
 ghost use Rattle.std.specs.Io.KnownBytes.{IsAtEnd, Keeps};
 ghost use Rattle.counted_io.specs.Counts.{HasFailed, ReadsUsedUp};
 ghost use Rattle.crossbar5.specs.Faults.{ComesFirst};
 ghost use Rattle.crossbar5.specs.PlanRefusal.{IsRefusedPlan, plan_in};
-ghost use Rattle.crossbar5_cli.specs.Work.{IsAnswer, IsDiagnosticOf, IsWorkDone, output_of, reasons_of};
+ghost use Rattle.crossbar5_cli.specs.Work.{IsAnswer, IsDiagnosticOf, IsWorkDone, output_of, reasons_of, is_output};
+ghost use Rattle.crossbar5_cli.specs.CheckedWork.{IsCheckedOf, RefusesMarkers};
+ghost use Rattle.crossbar5.specs.Refusal.{HasItsStatus};
 
-use crate::checked_work::CheckedWork;
-use crate::response::Response;
 use counted_io::{Sink, Source, write_all};
-use crossbar5::{EngineFault, PlanSource, Status, Written, do_task};
+use crossbar5::{Diagnostic, EngineFault, PlanSource, Status, Written, do_task, kinds_for};
+use crossbar5_command::Work;
 use crossbar5_live::{do_live, open_gates};
-use std::alloc::Global;
+use crossbar5_task::Task;
+use std::alloc::{AllocError, Global};
 use std::sync::Wait;
 use std::thread::Threads;
+use xbar_markers::CallMarkers;
+use xbar_moves::Kinds;
+
+/// The work that a command line asks for, with markers that are valid.
+#[derive(Drop)]
+pub enum CheckedWork {
+    /// A task of the engine, with the kinds of its markers. Those of a task on records don't count.
+    Task { task: Task, kinds: Kinds },
+    /// Calls by these markers on threads.
+    Live(CallMarkers),
+}
+
+impl CheckedWork {
+    /// This work, or None if its markers are refused.
+    pub fn new(work: &Work) -> Option<Self>
+        ensures checked { IfSome result (IsCheckedOf work.now) }
+        ensures refused { (result ≡ None) ↔ RefusesMarkers work.now }
+    {
+        match work {
+            Work::Task { task, kinds } => {
+                let task = *task;
+                let kinds = kinds_for(task, kinds.as_bytes())?;
+                Some(CheckedWork::Task { task, kinds })
+            }
+            Work::Live {
+                dialling,
+                completing,
+            } => {
+                let markers = CallMarkers::new(*dialling as usize, *completing as usize)?;
+                Some(CheckedWork::Live(markers))
+            }
+        }
+    }
+
+    /// Whether its text is its output if it ends with this status. The text of a drawing that isn't
+    /// made says why.
+    pub fn is_output(&self, status: Status) -> bool
+        ensures { result ≡ is_output self.now status }
+    {
+        match self {
+            CheckedWork::Task {
+                task: Task::Draw(_),
+                ..
+            } => status == Status::Fine,
+            CheckedWork::Task { .. } | CheckedWork::Live(_) => true,
+        }
+    }
+}
+
+/// What the engine answered to work whose output was written whole.
+#[derive(Debug, Drop)]
+pub struct Response {
+    pub status: Status,
+    /// What is wrong with the plan, the traffic or the text of records that was refused. None if
+    /// nothing was refused, an error if memory for it ran out.
+    pub diagnostic: Result<Option<Diagnostic>, AllocError>,
+    /// Why nothing is drawn: the lines that an audit of the records writes, or the plan's fault
+    /// line. Empty if the office is drawn, and for all other work.
+    pub reasons: Vec<u8>,
+    pub ghost refusal: { HasItsStatus diagnostic status },
+}
 
 /// What to type as the input of the work, with an example.
 pub fn input_of(work: &CheckedWork) -> &'static str {

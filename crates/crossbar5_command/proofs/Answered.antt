@@ -4,7 +4,7 @@ use Rattle.std.proofs.Common.{IsErrAnd, MatchResult, nat_lt, length, le-ltb, lt-
 use Rattle.clap.specs.{Kinds.or_else, Words.{Kinds, Text, fault_of, subcommand_of}, declared.error.kind.ErrorKind.TheVariants.ArgumentConflict}
 use Rattle.crossbar5_command.specs.{Ask.{IsAnswerTo, IsAskOf, IsAskWith, IsUnnamedAsk, name_of}, Fault.{IsFaultAmong, conflict_of, faults_of, form_count}}
 use Rattle.crossbar5_command.specs.{Program.{program, replay, subcommands}, Subcommand.{AskFor, GivenOption, NamesOnly, Subcommand, value_of}}
-use Rattle.crossbar5_command.specs.declared.{ask.Ask.Ask, command_fault.CommandFault.{CommandFault, TheVariants.Memory}}
+use Rattle.crossbar5_command.specs.declared.{command_line.Ask.Ask, command_fault.CommandFault.{CommandFault, TheVariants.Memory}}
 use Rattle.crossbar5_command.proofs.{FaultKinds.among_none, OtherWords.{names_only, no_subcommand}, SubcommandWords.{words_conflict, words_read}}
 
 -- an answer with the ask, or with a fault among these kinds

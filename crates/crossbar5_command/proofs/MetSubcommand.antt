@@ -6,7 +6,7 @@ use Rattle.clap.specs.{Simple.subcommand_rows, Walk.{Row, Text, first_of, rows_o
 use Rattle.clap.specs.declared.parser.matches.{ArgMatches.TheViews.{out-ArgMatches, out-SubCommand}, SubCommand.SubCommand}
 use Rattle.clap.proofs.WalkLemmas.{first_value-rows}
 use Rattle.crossbar5_command.specs.{Ask.{IsAnswerTo, IsAnswerWith, IsAskWith}, Fault.{IsFaultAmong, conflict_in, conflict_of}, Program.{replay, subcommands}}
-use Rattle.crossbar5_command.specs.{Subcommand.{Subcommand, subcommand_named}, declared.{ask.Ask.Ask, command_fault.CommandFault.CommandFault}}
+use Rattle.crossbar5_command.specs.{Subcommand.{Subcommand, subcommand_named}, declared.{command_line.Ask.Ask, command_fault.CommandFault.CommandFault}}
 
 -- the name that was met is that of the rows
 name_of_rows : {Z : Type 0} (met : Option (Box SubCommand Z))

@@ -7,7 +7,7 @@ use Rattle.clap.specs.Walk.{nothing_held, plain, short_or_plain, subcommand_met,
 use Rattle.clap.specs.{Words.{fault_of, subcommand_of, takes}, Faults.{bundle_fault, bundle_step_fault, flag_word_fault, flags_fault, long_fault, other_fault}}
 use Rattle.clap.{specs.Faults.{short_fault, step_fault, turn_fault, walk_fault, word_fault}, proofs.OnLiterals.clap_on_literals}
 use Rattle.crossbar5_command.specs.{Ask.{IsAskOf, name_of}, Program.{program, replay, subcommands}, Subcommand.{NamesOnly, Subcommand, subcommand_named}}
-use Rattle.crossbar5_command.{specs.declared.ask.Ask.Ask, proofs.SubcommandWords.{found, label, label_by_name, named, names, subcommand_is, top}}
+use Rattle.crossbar5_command.{specs.declared.command_line.Ask.Ask, proofs.SubcommandWords.{found, label, label_by_name, named, names, subcommand_is, top}}
 use Rattle.crossbar5_command.proofs.ValueWords.{IsRefused, dashes, or_else-first, or_else-second, some_refused}
 use Rattle.clap.specs.declared.error.kind.ErrorKind.TheVariants as kind
 

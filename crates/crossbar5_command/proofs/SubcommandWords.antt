@@ -9,7 +9,7 @@ use Rattle.clap.specs.{Takes.{step_passes, walk_passes}, Faults.{entered_fault, 
 use Rattle.clap.{specs.Words.{is_simple_and_free, subcommand_of, takes}, proofs.{OnLiterals.clap_on_literals, WalkLemmas.{find-map, walk_stopped}}}
 use Rattle.crossbar5_command.specs.{Ask.{IsAskOf, IsAskWith}, Fault.{conflict_in, conflict_of}, Program.{program, program_of, subcommands}}
 use Rattle.crossbar5_command.specs.Subcommand.{AreOptions, AreValues, AskFor, GivenOption, Subcommand, subcommand_named, value_of, words_of}
-use Rattle.crossbar5_command.{specs.declared.ask.Ask.Ask, proofs.{FirstFound.{found_first, found_passes}, OptionRows.values_of_rows}}
+use Rattle.crossbar5_command.{specs.declared.command_line.Ask.Ask, proofs.{FirstFound.{found_first, found_passes}, OptionRows.values_of_rows}}
 use Rattle.crossbar5_command.proofs.OptionRules.{all_rules, are_sound, defaults_pass, first_shape, is_sound_option, level, rules_for}
 use Rattle.crossbar5_command.proofs.{OptionWords.{all_new, options_read, options_taken, other_way}, ValueWords.{or_else-first, or_else-second}}
 

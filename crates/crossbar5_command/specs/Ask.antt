@@ -6,11 +6,11 @@ use Rattle.crossbar5_command.specs.Fault.{IsFaultAmong, conflict_in, conflict_of
 use Rattle.crossbar5_command.specs.Forms.{is_given, look_form, walk_form}
 use Rattle.crossbar5_command.specs.Program.{audit, default_kinds, draw, live, look, one, page, replay, walk}
 use Rattle.crossbar5_command.specs.Subcommand.{Subcommand}
-use Rattle.crossbar5_command.specs.declared.ask.Ask.{Ask}
-use Rattle.crossbar5_command.specs.declared.ask.Work.{Work}
-use Rattle.crossbar5_command.specs.declared.ask.Work.TheVariants as work
+use Rattle.crossbar5_command.specs.declared.command_line.Ask.{Ask}
+use Rattle.crossbar5_command.specs.declared.command_line.Work.{Work}
+use Rattle.crossbar5_command.specs.declared.command_line.Work.TheVariants as work
 use Rattle.crossbar5_task.specs.Tasks.{is_on_rows}
-use Rattle.crossbar5_task.specs.declared.forms.DrawForm.TheVariants.{Page, Svg, Text as AsText}
+use Rattle.crossbar5_task.specs.declared.task.DrawForm.TheVariants.{Page, Svg, Text as AsText}
 use Rattle.crossbar5_task.specs.declared.task.Task.{Task}
 use Rattle.crossbar5_task.specs.declared.task.Task.TheVariants.{Audit, Draw, Look, Replay, Walk}
 use Rattle.crossbar5_command.specs.declared.command_fault.CommandFault.{CommandFault}

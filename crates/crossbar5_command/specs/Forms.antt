@@ -3,10 +3,10 @@ use Rattle.std.specs.Prelude.{Bool, true, false, Option, None, Some, codes}
 use Rattle.std.specs.Option.{option_map_or}
 use Rattle.std.specs.Str.{bytes_eq}
 use Rattle.clap.specs.Words.{Text}
-use Rattle.crossbar5_task.specs.declared.forms.LookForm.{LookForm}
-use Rattle.crossbar5_task.specs.declared.forms.LookForm.TheVariants as look
-use Rattle.crossbar5_task.specs.declared.forms.WalkForm.{WalkForm}
-use Rattle.crossbar5_task.specs.declared.forms.WalkForm.TheVariants as walk
+use Rattle.crossbar5_task.specs.declared.task.LookForm.{LookForm}
+use Rattle.crossbar5_task.specs.declared.task.LookForm.TheVariants as look
+use Rattle.crossbar5_task.specs.declared.task.WalkForm.{WalkForm}
+use Rattle.crossbar5_task.specs.declared.task.WalkForm.TheVariants as walk
 
 -- an option that takes no value is given: clap has the value `true` for it
 abbrev pub is_given : Option Text → Bool

@@ -1,27 +1,53 @@
-ghost use Rattle.std.specs.Prelude.{◌≡◌, ◌<◌, ◌≤◌, [], ◌∷◌, List, MatchResult, IfErr, IfOk, IfSome, IsErrAnd};
-ghost use Rattle.std.specs.Prelude.{IsSome, length, option_and_then, option_map, true, unwrap_or};
+//! What the words of a command line ask for.
+
+ghost use Rattle.std.specs.Prelude.{◌≡◌, ◌<◌, ◌≤◌, [], ◌∷◌, List, MatchResult, IfErr, IfOk, IfSome, IsErrAnd, IsSome, length, option_and_then, option_map, true, unwrap_or};
 ghost use Rattle.std.specs.String.{string_bytes};
 ghost use Rattle.clap.specs.Walk.{texts};
-ghost use Rattle.clap.specs.Words.{first_value, found_of, subcommand_of};
-ghost use Rattle.clap.specs.Words.{subcommand_rows_of, takes};
+ghost use Rattle.clap.specs.Words.{first_value, found_of, subcommand_of, subcommand_rows_of, takes};
 ghost use Rattle.crossbar5_command.specs.Ask.{IsAnswerTo, IsAnswerWith, IsAskOf, IsAskWith, IsNumberOf, IsTaskWith, IsUnnamedAsk, name_of};
 ghost use Rattle.crossbar5_command.specs.Fault.{IsFaultAmong, conflict_of, faults_of, form_count};
 ghost use Rattle.crossbar5_command.specs.Forms as specs;
 ghost use Rattle.crossbar5_command.specs.Program.{audit, default_kinds, draw, live, look, page, program, replay, subcommands, walk};
-ghost use Rattle.crossbar5_command.specs.Subcommand.{AreValues, AskFor, GivenOption, NamesOnly};
-ghost use Rattle.crossbar5_command.specs.Subcommand.{Subcommand, subcommand_named, value_of};
+ghost use Rattle.crossbar5_command.specs.Subcommand.{AreValues, AskFor, GivenOption, NamesOnly, Subcommand, subcommand_named, value_of};
 ghost use Rattle.crossbar5_command.specs.declared.command_fault.CommandFault.TheVariants.{Memory};
 
+use crate::CommandFault;
 use crate::options::{
     COMPLETING, DEFAULT_KINDS, DIAL, JSON, MARKERS, ONE, PLAN, SHORT, SVG, TEXT, WORDS,
 };
 use crate::program::{NAME, program};
 use crate::subcommands::{AUDIT, DRAW, LIVE, LOOK, PAGE, REPLAY, USAGE_LOOK, USAGE_WALK, WALK};
-use crate::{Ask, CommandFault, Work};
 use clap::error::ErrorKind;
 use clap::{ArgMatches, Command};
 use crossbar5_task::{DrawForm, LookForm, Task, WalkForm};
 use std::alloc::{AllocError, Global};
+
+/// What a command line asks for.
+#[derive(Drop)]
+pub struct Ask {
+    /// The name of the plan's file. None is for the example plan.
+    pub plan: Option<String>,
+    pub work: Work,
+}
+
+/// The work that a command line asks for, on standard input.
+#[derive(Drop)]
+pub enum Work {
+    /// A task of the engine.
+    Task {
+        task: Task,
+        /// A letter for the kind of each marker, marker 0 first. They aren't checked yet. A task
+        /// on records has no markers: its letters are the default.
+        kinds: String,
+    },
+    /// Calls by markers on threads.
+    Live {
+        /// The number of markers that dial, 1 to 47.
+        dialling: u32,
+        /// The number of markers that complete and release calls, 1 to 47.
+        completing: u32,
+    },
+}
 
 /// Returns what the words ask for. The first word is the program's name, whatever it is. The
 /// options of a subcommand follow its name in any order.

@@ -9,6 +9,7 @@ ghost use Rattle.crossbar5_command.specs.Table.{named_subcommand};
 
 use crate::options::{CommandOption, args_of, put};
 use clap::Command;
+use crossbar5_task::{DrawForm, LookForm, Task, WalkForm};
 use std::alloc::{AllocError, Global};
 
 // The names of the subcommands.
@@ -239,5 +240,22 @@ fn add<'a>(
     match made {
         Ok(one) => put(all, one),
         Err(error) => Err(error),
+    }
+}
+
+/// The words that ask for a task, after the program's name.
+pub fn words_of(task: Task) -> &'static [&'static str] {
+    match task {
+        Task::Replay => &[REPLAY],
+        Task::Walk(WalkForm::Each) => &[WALK],
+        Task::Walk(WalkForm::Short) => &[WALK, "--short"],
+        Task::Walk(WalkForm::Json) => &[WALK, "--json"],
+        Task::Look(LookForm::Words) => &[LOOK],
+        Task::Look(LookForm::Json) => &[LOOK, "--json"],
+        Task::Look(LookForm::Svg) => &[LOOK, "--svg"],
+        Task::Audit => &[AUDIT],
+        Task::Draw(DrawForm::Text) => &[DRAW, "--text"],
+        Task::Draw(DrawForm::Svg) => &[DRAW],
+        Task::Draw(DrawForm::Page) => &[PAGE],
     }
 }

@@ -6,7 +6,7 @@ use Rattle.xbar_office.specs.Legal.{IsLegal, after}
 use Rattle.xbar_office.specs.declared.reply.Record.{Record}
 use Rattle.xbar_traffic.specs.Traffic.{IsTrafficOf}
 use Rattle.xbar_traffic.specs.declared.fault.RowFault.{RowFault}
-use Rattle.xbar_traffic.specs.declared.mode.Mode.TheVariants.{Live}
+use Rattle.xbar_traffic.specs.declared.row.Mode.TheVariants.{Live}
 use Rattle.xbar_traffic.specs.declared.row.Row.{Row}
 use Rattle.xbar_traffic.specs.declared.row.Row.TheVariants as row
 use Rattle.xbar_report.specs.Text.{report_text}
@@ -16,8 +16,8 @@ use Rattle.xbar_markers.specs.DesksByKind.{kinds_of}
 use Rattle.xbar_markers.specs.declared.call.Call.{Call}
 use Rattle.crossbar5.specs.PlanRefusal.{IsAnswerOf, PlanRead}
 use Rattle.crossbar5.specs.TrafficRefusal.{IsTrafficRefusal}
-use Rattle.crossbar5.specs.declared.status.Status.{Status}
-use Rattle.crossbar5.specs.declared.status.Status.TheVariants.{Fine}
+use Rattle.crossbar5.specs.declared.written.Status.{Status}
+use Rattle.crossbar5.specs.declared.written.Status.TheVariants.{Fine}
 
 -- the calls that a row asks for: one, or none
 abbrev pub calls_in : Row → List Call

@@ -1,7 +1,7 @@
 use Rattle.std.specs.Prelude.{Bool, true, false, List, [], ◌∷◌}
-use Rattle.crossbar5_task.specs.declared.forms.DrawForm.TheVariants as draw
-use Rattle.crossbar5_task.specs.declared.forms.LookForm.TheVariants as look
-use Rattle.crossbar5_task.specs.declared.forms.WalkForm.TheVariants as walk
+use Rattle.crossbar5_task.specs.declared.task.DrawForm.TheVariants as draw
+use Rattle.crossbar5_task.specs.declared.task.LookForm.TheVariants as look
+use Rattle.crossbar5_task.specs.declared.task.WalkForm.TheVariants as walk
 use Rattle.crossbar5_task.specs.declared.task.Task.{Task}
 use Rattle.crossbar5_task.specs.declared.task.Task.TheVariants.{Audit, Draw, Look, Replay, Walk}
 

@@ -2,8 +2,6 @@
 //! their numbers.
 #![tactic(auto)]
 
-pub use forms::{DrawForm, LookForm, WalkForm};
-pub use task::{TASKS, Task};
+pub use task::{DrawForm, LookForm, TASKS, Task, WalkForm};
 
-mod forms;
 mod task;

@@ -1,5 +1,3 @@
-use crate::forms::{DrawForm, LookForm, WalkForm};
-
 /// What the engine does with an input, in an office with a plan and markers.
 #[derive(Clone, Copy, Debug, PartialEq, Eq)]
 pub enum Task {
@@ -67,4 +65,37 @@ impl Task {
             Task::Audit | Task::Draw(_) => false,
         }
     }
+}
+
+/// How a walk is written.
+#[derive(Clone, Copy, Debug, PartialEq, Eq)]
+pub enum WalkForm {
+    /// In words, with a line for each step.
+    Each,
+    /// In words, with the tests of a row of switches in one line.
+    Short,
+    /// As JSON objects, one for each event, each on a line of its own.
+    Json,
+}
+
+/// How an office that hasn't settled is shown.
+#[derive(Clone, Copy, Debug, PartialEq, Eq)]
+pub enum LookForm {
+    /// In words.
+    Words,
+    /// As one JSON object, with the events of the last row.
+    Json,
+    /// As one drawing in SVG.
+    Svg,
+}
+
+/// How the office after records is drawn.
+#[derive(Clone, Copy, Debug, PartialEq, Eq)]
+pub enum DrawForm {
+    /// As text for a terminal of 80 columns.
+    Text,
+    /// As one drawing in SVG.
+    Svg,
+    /// As one HTML page, turn by turn.
+    Page,
 }

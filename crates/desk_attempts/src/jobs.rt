@@ -3,7 +3,7 @@ ghost use Rattle.turns.specs.Attempt.{act, asked_in};
 ghost use Rattle.turns.specs.Sharings.{sharing_of};
 ghost use Rattle.turns.specs.declared.act.Act.TheVariants.{Finished};
 ghost use Rattle.desks.specs.WordSteps.{Makes};
-ghost use Rattle.desk_attempts.specs.Of.{MayApply, IsValidSpeculation, now_of};
+ghost use Rattle.desk_attempts.specs.Of.{IsValidSpeculation, now_of};
 ghost use Rattle.attempts.specs.Of.{system_of};
 
 use crate::in_room::InRoom;
@@ -12,22 +12,12 @@ use crate::now::{
     next_now, next_past_turn_now, next_without_lock_now, outcome_now, restart_now,
 };
 use crate::speculation::SpeculationOf;
-use attempts::{OnWords, step_operation, step_place};
+use attempts::{OnWords, step_operation, step_word};
 use desks::{Jobs, WordStep};
 use std::alloc::{AllocError, Global};
 use std::marker::PhantomData;
 use std::ops::Range;
 use turns::{Act, Answer, Phase, Reading};
-
-/// Does nothing. Called for its contract, that an answer may be applied.
-fn may_apply<S: InRoom<R, READINGS, HELD>, R, const READINGS: usize, const HELD: usize>(
-    setting: &S::Setting,
-    _program: &SpeculationOf<S, READINGS, HELD>,
-)
-    requires { S.IsSetting setting.now
-        × IsValidSpeculation S.Lock.eq S.Scripts setting.now _program.now }
-    ensures { MayApply S.Lock.eq S.Scripts setting.now _program.now }
-{}
 
 /// The words under the lock that the pending step seizes, or an empty range if it seizes none or
 /// the number `found` tells that it didn't.
@@ -70,7 +60,7 @@ fn on_word<S: InRoom<R, READINGS, HELD>, R, const READINGS: usize, const HELD: u
         return None;
     }
     Some(WordStep {
-        place: step_place::<S, READINGS, HELD>(setting, step),
+        place: step_word::<S, READINGS, HELD>(setting, step),
         operation: step_operation::<S, READINGS, HELD>(setting, actor, step),
     })
 }
@@ -212,16 +202,14 @@ impl<S: InRoom<R, READINGS, HELD>, R, const READINGS: usize, const HELD: usize> 
 
     #[inline(always)]
     fn predictions<'a>(
-        setting: &S::Setting,
+        _setting: &S::Setting,
         program: &'a SpeculationOf<S, READINGS, HELD>,
     ) -> &'a [Reading<usize>] {
-        may_apply::<S, R, READINGS, HELD>(setting, program);
         program.predictions()
     }
 
     #[inline(always)]
-    fn confirm(setting: &S::Setting, program: &mut SpeculationOf<S, READINGS, HELD>, made: usize) {
-        may_apply::<S, R, READINGS, HELD>(setting, program);
+    fn confirm(_setting: &S::Setting, program: &mut SpeculationOf<S, READINGS, HELD>, made: usize) {
         // Called for its contract, that each value read fits 64 bits.
         let _predictions = program.predictions();
         program.confirm(made);
@@ -238,8 +226,7 @@ impl<S: InRoom<R, READINGS, HELD>, R, const READINGS: usize, const HELD: usize> 
     }
 
     #[inline(always)]
-    fn apply_past_turn(setting: &S::Setting, program: &mut SpeculationOf<S, READINGS, HELD>) {
-        may_apply::<S, R, READINGS, HELD>(setting, program);
+    fn apply_past_turn(_setting: &S::Setting, program: &mut SpeculationOf<S, READINGS, HELD>) {
         apply_past_turn_now::<S, READINGS, HELD>(program);
     }
 
@@ -259,7 +246,6 @@ impl<S: InRoom<R, READINGS, HELD>, R, const READINGS: usize, const HELD: usize> 
         found: u64,
         snapshot: &mut [u64],
     ) -> Answer {
-        may_apply::<S, R, READINGS, HELD>(setting, program);
         apply_found::<S, READINGS, HELD>(setting, actor, program, found, snapshot)
     }
 

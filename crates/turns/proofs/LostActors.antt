@@ -4,8 +4,8 @@ use Rattle.std.proofs.Common.{Option as Maybe, Some, None, if◌then◌else◌}
 use mathlib.Core.Option.{Option, some, none}
 use lib.ListN.{get_elem?}
 use Rattle.turns.specs.{Among.IsIn, System.{System, IsSystem}, Attempt.{AttemptOf, begin, restarted}, World.{World, ActorOf, RecordOf, Idle, Does, added}}
-use Rattle.turns.specs.{World.{added_in, assigned, turn_record}, Law.{HasRequested, Holds, Lawful, holder_at, word_at}, Sharing.ShowsRequests}
-use Rattle.turns.specs.Runs.{Move, Assigns, Steps, Restarts, AreMoves, AreOfOthers, mover, is_available, assigned_at, stepped_at, restarted_at, after_move, run_from}
+use Rattle.turns.specs.{World.{added_in, assigned, turn_record}, Law.{HasRequested, Holds, Lawful, holder_at, word_at}, Sharing.ShowsRequests, Runs.Move}
+use Rattle.turns.specs.Runs.{Assigns, Steps, Restarts, AreMoves, AreOfOthers, mover, is_available, assigned_at, stepped_at, restarted_at, after_move, run_from}
 use Rattle.turns.specs.declared.phase.Phase.{Phase, TheVariants.{Requests, Seizes, Tests, Turns, Withdraws, GivesBack, Operates}}
 use Rattle.turns.proofs.{Lists.{in_either, set_else}, Consequences.spared, Quiet.few_actors, Runs.{made_lawful, run_lawful}}
 

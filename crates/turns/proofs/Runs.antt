@@ -3,8 +3,8 @@ use mathlib.Core.Option.{Option, some, none}
 use lib.ListN.{get_elem?}
 use Rattle.turns.specs.{System.{System, IsSystem}, Attempt.act, declared.act.Act.{Act, TheVariants.{Finished, Request, Seize, Withdraw, Test, Turn, Make}}}
 use Rattle.turns.specs.{declared.act.Act.TheVariants.Free, World.{World, ActorOf, Idle, Does, assigned, fresh_world}, Law.{IsAvailable, Lawful}}
-use Rattle.turns.specs.Runs.{Move, Assigns, Steps, Restarts, is_finished, is_available, assigned_at, stepped_at, restarted_at, after_move, run_from, run_of, IsMove}
-use Rattle.turns.{specs.Runs.AreMoves, proofs.Moving.{opens, assigns, keeps, gives_back}}
+use Rattle.turns.specs.Runs.{Move, Assigns, Steps, Restarts, is_finished, is_available, assigned_at, stepped_at, restarted_at, after_move, run_from, run_of}
+use Rattle.turns.{specs.Runs.{IsMove, AreMoves}, proofs.Moving.{opens, assigns, keeps, gives_back}}
 
 pub rest_is : {Lock Effect : Type 0} (a : Act Lock Effect) → is_finished a ≡ true → a ≡ Finished
 rest_is Finished e = refl

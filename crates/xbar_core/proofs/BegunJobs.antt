@@ -3,13 +3,12 @@ use Rattle.std.proofs.Common.{◌≡◌, ℕ, zero, suc, ◌+◌, true, List, []
 use Rattle.turns.specs.Attempt.{act, act_in, begin_with, change, changed, forgotten, free_act, giving_back, request_in, rest_of, restarted, restarted_in}
 use Rattle.turns.specs.{World.Does, declared.{answer.Answer.Answer, phase.Phase.TheVariants.{Requests, Seizes, Tests, Turns, Withdraws, GivesBack, Operates}}}
 use Rattle.{xbar_equip.specs.declared.conn.Conn.Conn, xbar_plan.specs.Tables.Tables, xbar_office.specs.declared.job.Job.Job}
-use Rattle.xbar_jobs.specs.{Attempt.{Attempt, Phase, step_of}, Jobs.first_conn, Office.office}
-use Rattle.xbar_moves.specs.{AtWork.{IsBackingIn, withdraws_or_frees, answer_to_step}, Exchange.Exchange, Holding.IsAt}
-use Rattle.xbar_moves.specs.Moves.{restarted_at, frees_left, given_at, given_back, given_by, request_count, after_step, steps}
-use Rattle.xbar_moves.proofs.Backing.{Answers, anew_in, answers, back_goes, by_backing, gives_up_goes, goes_with, left_in, left_is, no_more, one_less}
-use Rattle.xbar_moves.proofs.{Jobs.{restarted_job, at_job_is}, StepCases.gone_on, Worlds.{answer_is, found_by}}
+use Rattle.{xbar_jobs.specs.{Attempt.{Attempt, Phase, step_of}, Jobs.first_conn, Office.office}, xbar_moves.specs.AtWork.{IsBackingIn, answer_to_step}}
+use Rattle.xbar_moves.specs.{Exchange.Exchange, Holding.IsAt, Moves.{restarted_at, frees_left, given_at, given_back, given_by, request_count, after_step}}
+use Rattle.xbar_moves.{specs.Moves.steps, proofs.Backing.{withdraws_or_frees, Answers, anew_in, answers, back_goes, by_backing, gives_up_goes, goes_with}}
+use Rattle.xbar_moves.proofs.{Backing.{left_in, left_is, no_more, one_less}, Jobs.{restarted_job, at_job_is}, StepCases.gone_on, Worlds.{answer_is, found_by}}
 use Rattle.turns.specs.Attempt as generic
-use Rattle.xbar_moves.specs.declared.given.Given.TheVariants as given
+use Rattle.xbar_moves.specs.declared.event.Given.TheVariants as given
 
 -- a job before its first step
 abbrev begun : Job → Attempt

@@ -2,7 +2,7 @@
 use Rattle.std.proofs.Common.{◌≡◌, ℕ, List, [], ◌∷◌, ◌++◌, append_assoc, append-nil, inl, inr, refl, sym, ◌∙◌, ap, subst, Option, Some, None, slice_get}
 use Rattle.{xbar_plan.specs.Tables.Tables, xbar_office.specs.declared.{job.Job.Job, reply.Record.Record}}
 use Rattle.xbar_moves.specs.{AtWork.answer_to_step, Exchange.{Exchange, Marker}, Moves.{assigned, added_record, refusal, after_step}, Runs.{Assigns, Restarts}}
-use Rattle.xbar_moves.specs.{Runs.{GivesBack, Move, Settles, Steps, after_move, run_from, unless_refused}, declared.assign_fault.AssignFault.AssignFault}
+use Rattle.xbar_moves.specs.{Runs.{GivesBack, Move, Settles, Steps, after_move, run_from, unless_refused}, declared.kinds.AssignFault.AssignFault}
 use Rattle.xbar_moves.proofs.{GivenBack.records_stay, Keeping.{KeepsRestarts, KeepsSteps, restarts_keep, settled_keeps}, StepCases.step_cases}
 
 -- these records begin those of an office

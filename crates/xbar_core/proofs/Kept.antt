@@ -9,18 +9,23 @@ use Rattle.turns.specs.{declared.phase.Phase.TheVariants.{Requests, Seizes, Test
 use Rattle.{turns.{specs.Runs.is_finished, proofs.{ExactWords.answers_fit, Lists.one_or_two}}, xbar_equip.specs.declared.conn.Conn.Conn}
 use Rattle.{xbar_plan.specs.{Tables.Tables, Lawful.IsLawful}, xbar_office.specs.{Legal.IsJob, declared.{job.Job.Job, reply.Reply.Reply}}}
 use Rattle.xbar_jobs.specs.{Attempt.{Attempt, Phase}, Jobs.first_conn, Office.office, Standing.IsValid, declared.effect.Effect.Effect}
-use Rattle.xbar_jobs.proofs.{AttemptStands.{stands_after, stands_again, stands_begun}, StepsMade.fits_asking}
-use Rattle.xbar_moves.specs.{AtWork.answer_to_step, Exchange.{Exchange, IsLawfulExchange, Marker, Work, fresh_exchange, turned}, Holding.IsAt}
-use Rattle.xbar_moves.{specs.{Moves.{added_record, refusal, after_step, with_work, restarted_work}, declared.kind.Kind.Kind}, proofs.Actors.actor_at}
-use Rattle.xbar_moves.proofs.{Jobs.{assigned_is, past_turn}, Markers.{marker_else, marker_set}, Keeping.{KeepsRestarts, restarted_keeps}, StepCases.step_cases}
-use Rattle.xbar_moves.proofs.Worlds.{added_at, answer_is, found_by, lawful_assigned, lawful_opened, lawful_stepped, restarted_lawful, taken}
-use Rattle.xbar_core.{specs.Standing.{HasRoom, IsExchange, StandsAt, waiting, waits, waits_in}, proofs.WaitingMarkers.{waiting_most, waiting_set, waits_most}}
+use Rattle.{xbar_jobs.proofs.{AttemptStands.{stands_after, stands_again, stands_begun}, StepsMade.fits_asking}, xbar_moves.specs.AtWork.answer_to_step}
+use Rattle.xbar_moves.specs.{Exchange.{Exchange, IsLawfulExchange, Marker, Work, fresh_exchange, turned}, Holding.IsAt, Moves.{added_record, refusal}}
+use Rattle.xbar_moves.{specs.{Moves.{after_step, with_work, restarted_work}, declared.kinds.Kind.Kind}, proofs.{Actors.actor_at, Jobs.{assigned_is, past_turn}}}
+use Rattle.xbar_moves.proofs.{Markers.{marker_else, marker_set}, Keeping.{KeepsRestarts, restarted_keeps}, StepCases.step_cases, Worlds.{added_at, answer_is}}
+use Rattle.{xbar_moves.proofs.Worlds.{found_by, lawful_assigned, lawful_opened, lawful_stepped, restarted_lawful, taken}, xbar_core.specs.Standing.HasRoom}
+use Rattle.xbar_core.{specs.Standing.{HoldsFew, IsExchange, StandsAt, waiting, waits, waits_in}, proofs.WaitingMarkers.{waiting_most, waiting_set, waits_most}}
 use Rattle.turns.specs.Attempt as generic
 use Rattle.turns.specs.World as worlds
 
 module _ (plan : Tables) where
   abbrev pub AreStanding : List Marker → Type 0
   AreStanding markers = (k : ℕ) (m : Marker) → slice_get markers k ≡ Some m → StandsAt plan m.work
+
+  -- a valid attempt holds few connectors
+  pub few_held : (work : Work) → StandsAt plan work → HoldsFew work
+  few_held Idle valid = tt
+  few_held (Does n a) valid = valid.few
 
   -- with one marker set to a valid attempt, all are valid
   pub stands_set : (markers : List Marker) (k : ℕ) (m was : Marker) → slice_get markers k ≡ Some was → StandsAt plan m.work → AreStanding markers

@@ -4,7 +4,7 @@ use Rattle.turns.specs.{Attempt.{IsAnswerTo, act, change}, declared.act.Act.TheV
 use Rattle.turns.specs.{declared.answer.Answer.Answer, Runs.is_finished, World.Does}
 use Rattle.{attempts.specs.WalkOnWords.{IsNoTurn, LeadsTo, Moment, stepped, answer_at}, xbar_plan.specs.Tables.Tables}
 use Rattle.{xbar_office.specs.declared.reply.Record.Record, xbar_jobs.specs.{Attempt.{Act, Attempt, next_step}, Office.office, OnWords.words_after}}
-use Rattle.{xbar_jobs.proofs.PastTurn.words_led, xbar_moves.specs.{Exchange.{Exchange, Marker, Work}, Holding.IsAt, declared.kind.Kind.Kind}}
+use Rattle.{xbar_jobs.proofs.PastTurn.words_led, xbar_moves.specs.{Exchange.{Exchange, Marker, Work}, Holding.IsAt, declared.kinds.Kind.Kind}}
 use Rattle.xbar_moves.{specs.Moves.{added_record, after_step, steps}, proofs.{Markers.{marker_same, marker_set}, StepCases.step_made, Worlds.answer_is}}
 use Rattle.turns.specs.declared.answer.Answer.TheVariants as answer
 
@@ -103,15 +103,14 @@ module _ (plan : Tables) (k : ℕ) where
       ap (λ (n : ℕ). steps plan k n e) one ∙ steps_then count more (after_step plan k e)
 
   -- the same of a marker, whose kind and whose job's number stay
-  pub marker_led : (e : Exchange) (m : Marker) (kind : Kind) (number after_number : ℕ) (a after : Attempt) (words : List ℕ) (count : ℕ)
-      → slice_get e.markers k ≡ Some m → m ≡ record { kind = kind; work = Does number a } → after_number ≡ number
+  pub marker_led : (e : Exchange) (m : Marker) (kind : Kind) (number : ℕ) (a after : Attempt) (words : List ℕ) (count : ℕ)
+      → slice_get e.markers k ≡ Some m → m ≡ record { kind = kind; work = Does number a }
       → LeadsTo (office plan) k count (record { attempt = a; words = e.words }) (record { attempt = after; words = words })
-      → record { words = words; markers = slice_set e.markers k (record { kind = kind; work = Does after_number after }); records = e.records }
+      → record { words = words; markers = slice_set e.markers k (record { kind = kind; work = Does number after }); records = e.records }
       ≡ steps plan k count e
-  marker_led e m kind number after_number a after words count there is same leads =
+  marker_led e m kind number a after words count there is leads =
       let at : IsAt e k number a = record { marker = m; there = there; work = ap (λ (x : Marker). x.work) is } in
-      ap (λ (n : ℕ). record { words = words; markers = slice_set e.markers k (record { kind = kind; work = Does n after }); records = e.records }) same
-      ∙ ap (λ (x : Marker). record { words = words; markers = slice_set e.markers k (record { kind = x.kind; work = Does number after }); records = e.records })
+      ap (λ (x : Marker). record { words = words; markers = slice_set e.markers k (record { kind = x.kind; work = Does number after }); records = e.records })
       (sym is)
       ∙ sym (steps_led e number a at count (record { attempt = after; words = words }) leads)
 

@@ -3,9 +3,9 @@ use Rattle.std.proofs.Common.{◌≡◌, ℕ, ◌<◌, Bool, true, false, List, 
 use Rattle.std.proofs.Common.{slice_set, if◌then◌else◌}
 use Rattle.{std.proofs.{Math.Seq.take-append_seam, lemmas.Option.slice_get_read}, turns.specs.{Attempt.{act, change}, Runs.is_finished, World.{Idle, Does}}}
 use Rattle.{turns.specs.declared.answer.Answer.Answer, xbar_plan.specs.Tables.Tables, xbar_office.specs.declared.reply.Record.Record}
-use Rattle.xbar_jobs.specs.{Attempt.{Attempt, counted, next_step, with_count}, Office.office, OnWords.words_after, declared.step.Step.Step}
+use Rattle.xbar_jobs.specs.{Attempt.{Attempt, counted, next_step, with_count}, Office.office, OnWords.words_after, declared.program.Step.Step}
 use Rattle.xbar_moves.specs.{AtWork.{next_step_at, answer_to_step}, Exchange.{Exchange, Marker, Work as TheWork, is_idle}}
-use Rattle.xbar_moves.specs.{Moves.{IsAnswered, event_by, event_of, added_record, after_step, steps}, declared.{event.Event.Event, kind.Kind.Kind}}
+use Rattle.xbar_moves.specs.{Moves.{IsAnswered, event_by, event_of, added_record, after_step, steps}, declared.{event.Event.Event, kinds.Kind.Kind}}
 use Rattle.{xbar_moves.proofs.{Markers.marker_same, StepCases.step_made, Stepping.step_idle}, xbar_core.specs.declared.work.Work.Work}
 use Rattle.xbar_moves.specs.declared.event.Event.TheVariants as event
 

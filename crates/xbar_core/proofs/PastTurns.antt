@@ -5,8 +5,8 @@ use Rattle.{std.proofs.lemmas.List.Sums.sum_by-cons, turns.specs.Attempt.{act, a
 use Rattle.turns.specs.{declared.{act.Act.TheVariants.{Free, Finished}, answer.Answer.TheVariants.Done, phase.Phase.TheVariants.Operates}, Runs.is_finished}
 use Rattle.{turns.{specs.World.Does, proofs.{Lists.one_or_two, Runs.rest_is}}, xbar_equip.specs.declared.conn.Conn.Conn, xbar_plan.specs.Tables.Tables}
 use Rattle.{xbar_office.specs.declared.job.Job.Job, xbar_jobs.specs.{Attempt.{Act, Attempt, Phase}, Office.office, declared.effect.Effect.Effect}}
-use Rattle.xbar_moves.specs.{AtWork.answer_to_step, Exchange.{Exchange, is_idle}, Holding.IsAt, Moves.{assigned, refusal, after_step, with_work}, Runs.Assigns}
-use Rattle.xbar_moves.specs.{Runs.{Restarts, GivesBack, Move, Settles, Steps, after_move, unless_refused}, declared.assign_fault.AssignFault.AssignFault}
+use Rattle.xbar_moves.specs.{AtWork.answer_to_step, Exchange.{Exchange, is_idle}, Holding.IsAt, Moves.{assigned, refusal, after_step, with_work}}
+use Rattle.xbar_moves.specs.{Runs.{Assigns, Restarts, GivesBack, Move, Settles, Steps, after_move, unless_refused}, declared.kinds.AssignFault.AssignFault}
 use Rattle.xbar_moves.proofs.{Keeping.{KeepsRestarts, KeepsSteps, back_keeps, restarts_keep, settled_keeps}, Jobs.{assigned_is, one_job, set_at, work_at}}
 use Rattle.xbar_moves.proofs.{Markers.marker_else, ReleaseTurns.makes_one, StepCases.{gone_on, step_else}, Stepping.step_idle}
 use Rattle.{xbar_moves.proofs.Worlds.{answer_is, found_by, taken}, xbar_core.specs.Ends.{ComesToEnd, is_step_of, own_steps}}

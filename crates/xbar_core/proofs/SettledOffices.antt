@@ -13,8 +13,8 @@ use Rattle.xbar_moves.proofs.{Jobs.{at_job_has, at_job_is, given_is, past_turn, 
 use Rattle.xbar_moves.proofs.{Markers.{marker_there, none_within}, StepCases.{step_count, step_else}, Worlds.{idle_free, lawful_given_back, lawful_stepped}}
 use mathlib.Core.Option.{some}
 use lib.ListN.{get_elem?}
-use Rattle.xbar_moves.specs.declared.given.Given.TheVariants as given
-use Rattle.xbar_moves.specs.declared.given.Given.{Given}
+use Rattle.xbar_moves.specs.declared.event.Given.TheVariants as given
+use Rattle.xbar_moves.specs.declared.event.Given.{Given}
 
 -- all markers have this
 abbrev AllAre : (Work → Type 0) → Exchange → Type 0

@@ -4,8 +4,8 @@ use Rattle.std.proofs.Common.{slice_get}
 use Rattle.{turns.proofs.Lists.one_or_two, xbar_plan.specs.Tables.Tables, xbar_core.specs.Ends.{EachMakes, EndsIfPast, GivesBack, IsPast, RunsToEnd, Settles}}
 use Rattle.xbar_moves.specs.{Exchange.{Exchange, Marker, Work, is_idle}, Moves.{given_at, after_step, steps}, Settling.for_each}
 use Rattle.xbar_moves.proofs.{Keeping.for_each_keeps, StepCases.step_cases}
-use Rattle.xbar_moves.specs.declared.given.Given.TheVariants as given
-use Rattle.xbar_moves.specs.declared.given.Given.{Given}
+use Rattle.xbar_moves.specs.declared.event.Given.TheVariants as given
+use Rattle.xbar_moves.specs.declared.event.Given.{Given}
 
 -- what a marker makes keeps this, leaves the other markers as they are, and has that of it
 pub record IsStage (Makes : ℕ → Exchange → Exchange → Type 0) (Has : Exchange → Type 0) (Done : Work → Type 0) : Type 0 where

@@ -11,7 +11,7 @@ use Rattle.xbar_moves.specs.Holding.{IsAt}
 use Rattle.xbar_moves.specs.Moves.{given_at, given_back, steps}
 use Rattle.xbar_moves.specs.Runs as runs
 use Rattle.xbar_moves.specs.Runs.{Move, run_from}
-use Rattle.xbar_moves.specs.declared.given.Given.TheVariants as given
+use Rattle.xbar_moves.specs.declared.event.Given.TheVariants as given
 
 -- whether a move is a step of marker k
 abbrev pub is_step_of : ℕ → Move → Bool

@@ -3,7 +3,7 @@ use Rattle.turns.specs.Attempt.{turn_in}
 use Rattle.turns.specs.World.{Idle, Does}
 use Rattle.xbar_plan.specs.Tables.{Tables}
 use Rattle.xbar_jobs.specs.Attempt.{Phase}
-use Rattle.xbar_jobs.specs.Standing.{IsValid}
+use Rattle.xbar_jobs.specs.Standing.{IsValid, most_held}
 use Rattle.xbar_moves.specs.Exchange.{Exchange, IsLawfulExchange, Marker, Work as TheWork, on_job}
 use Rattle.xbar_core.specs.declared.work.Work.{Work}
 
@@ -15,6 +15,10 @@ work_of (Some work) = Does work.job_no work.program.attempt
 -- a marker's attempt is valid, if it has one
 abbrev pub StandsAt : Tables → TheWork → Type 0
 StandsAt plan work = on_job ⊤ (λ number a. IsValid plan a) work
+
+-- a marker holds few connectors
+abbrev pub HoldsFew : TheWork → Type 0
+HoldsFew work = on_job ⊤ (λ number a. length a.held ≤ most_held) work
 
 -- what every office of markers keeps: it is lawful, and each marker's attempt is valid
 pub record IsExchange (plan : Tables) (e : Exchange) : Type 0 where

@@ -3,7 +3,8 @@
 ghost use Rattle.std.specs.Prelude.{◌≡◌, ◌<◌, ◌≤◌, ◌⊎◌, ◌^◌, IfOk, IfErr, OnOk, OnErr, Ok, Err, Some, None, length, map, slice_get};
 ghost use Rattle.turns.specs.World.{Idle};
 ghost use Rattle.xbar_equip.specs.Word.{word_count};
-ghost use Rattle.xbar_moves.specs.AtWork.{IsBackingAt, withdraws_or_frees_at, is_turned, next_step_at};
+ghost use Rattle.xbar_core.specs.Standing.{HoldsFew};
+ghost use Rattle.xbar_moves.specs.AtWork.{is_turned, next_step_at};
 ghost use Rattle.xbar_moves.specs.Exchange.{IsLawfulExchange, Marker as TheMarker, is_idle as is_idle_work, fresh_exchange};
 ghost use Rattle.xbar_moves.specs.Moves.{assigned, restarted_at, event_at_step, frees_left, given_at, given_back, refusal, after_step, steps};
 
@@ -113,7 +114,8 @@ impl<'p> Exchange<'p> {
 
     fn marker(&self, marker: u32) -> &Marker
         requires { marker < length self.now.exchange.markers }
-        ensures { slice_get self.now.exchange.markers marker ≡ Some result.now }
+        ensures marker { slice_get self.now.exchange.markers marker ≡ Some result.now }
+        ensures few { HoldsFew result.now.work }
     {
         &self.markers[marker as usize]
     }
@@ -162,13 +164,13 @@ impl<'p> Exchange<'p> {
         self.marker(marker).given()
     }
 
-    /// Whether the marker's next step withdraws a request, or frees a connector.
-    pub fn withdraws_or_frees(&self, marker: u32) -> bool
+    /// How many steps give back all that the marker holds, once its job is restarted: one withdraws
+    /// its request, if it has one, and one frees each connector.
+    pub fn frees_left(&self, marker: u32) -> u32
         requires { marker < length self.now.exchange.markers }
-        ensures { (m : TheMarker) → slice_get self.now.exchange.markers marker ≡ Some m →
-            result ≡ withdraws_or_frees_at m.work }
+        ensures { result ≡ frees_left self.now.exchange marker }
     {
-        self.marker(marker).withdraws_or_frees()
+        self.marker(marker).frees_left()
     }
 
     /// Why the job can't be assigned to the marker. None if it can.
@@ -242,20 +244,6 @@ impl<'p> Exchange<'p> {
         self.markers[marker as usize].restart();
     }
 
-    /// Has a marker that was restarted withdraw its request, and free all that it holds.
-    fn free_all(&mut self, marker: u32)
-        requires within { marker < length self.old.exchange.markers }
-        requires backs { IsBackingAt (slice_get self.old.exchange.markers marker) }
-        ensures { self.new ≡ record self.old {
-          exchange =
-              steps self.old.plan marker (frees_left self.old.exchange marker) self.old.exchange;
-        } }
-    {
-        while self.marker(marker).withdraws_or_frees() {
-            self.advance(marker);
-        }
-    }
-
     /// Has the marker give back what it holds, unless it is past its turn. It keeps its job.
     pub fn give_back(&mut self, marker: u32) -> Given
         requires { marker < length self.old.exchange.markers }
@@ -265,8 +253,9 @@ impl<'p> Exchange<'p> {
     {
         let given = self.given(marker);
         if let Given::Given = given {
+            let left = self.frees_left(marker);
             self.restart(marker);
-            self.free_all(marker);
+            self.steps(marker, left);
         }
         given
     }

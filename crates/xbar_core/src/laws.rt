@@ -19,7 +19,7 @@ ghost use Rattle.xbar_moves.specs.Moves.{event_at_step, given_at, given_back};
 ghost use Rattle.xbar_moves.specs.Runs.{Move, after_move, run_from};
 ghost use Rattle.xbar_moves.specs.Settling.{settled};
 ghost use Rattle.xbar_moves.specs.declared.event.Event.{Event};
-ghost use Rattle.xbar_moves.specs.declared.given.Given.{Given};
+ghost use Rattle.xbar_moves.specs.declared.event.Given.{Given};
 
 pub use xbar_moves::laws::{
     a_release_opens_its_own_crosspoints, attempts_keep_their_order, connectors_tell_the_truth,

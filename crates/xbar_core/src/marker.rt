@@ -6,10 +6,10 @@ ghost use Rattle.xbar_office.specs.declared.reply.Record.{Record as TheRecord};
 ghost use Rattle.xbar_plan.specs.Tables.{Tables};
 ghost use Rattle.xbar_jobs.specs.Attempt.{Attempt, next_step};
 ghost use Rattle.xbar_jobs.specs.Jobs.{first_conn};
-ghost use Rattle.xbar_moves.specs.AtWork.{withdraws_or_frees_at, is_turned, next_step_at};
+ghost use Rattle.xbar_moves.specs.AtWork.{is_turned, next_step_at};
 ghost use Rattle.xbar_moves.specs.Exchange.{Marker as TheMarker, Work as TheWork, is_idle as is_idle_at};
-ghost use Rattle.xbar_moves.specs.Moves.{IsAnswered, event_by, event_of, given_by, refusal_of, after_step, steps, restarted_work};
-ghost use Rattle.xbar_core.specs.Standing.{StandsAt, waits, work_of};
+ghost use Rattle.xbar_moves.specs.Moves.{IsAnswered, frees_left_by, event_by, event_of, given_by, refusal_of, after_step, steps, restarted_work};
+ghost use Rattle.xbar_core.specs.Standing.{HoldsFew, StandsAt, waits, work_of};
 
 use crate::work::Work;
 use std::marker::Model;
@@ -62,7 +62,7 @@ impl Marker {
     {
         match &self.work {
             None => true,
-            Some(work) => work.is_done(),
+            Some(work) => work.program.is_done(),
         }
     }
 
@@ -72,7 +72,7 @@ impl Marker {
     {
         match &self.work {
             None => Step::Finished,
-            Some(work) => work.next_step(),
+            Some(work) => work.program.next(),
         }
     }
 
@@ -82,17 +82,18 @@ impl Marker {
     {
         match &self.work {
             None => false,
-            Some(work) => work.is_past_turn(),
+            Some(work) => work.program.turn().is_some(),
         }
     }
 
-    /// Whether the marker's next step withdraws a request, or frees a connector.
-    pub fn withdraws_or_frees(&self) -> bool
-        ensures { result ≡ withdraws_or_frees_at self.now.work }
+    /// How many steps give back all that the marker holds. None if it has no job.
+    pub fn frees_left(&self) -> u32
+        requires { HoldsFew self.now.work }
+        ensures { result ≡ frees_left_by self.now.work }
     {
         match &self.work {
-            None => false,
-            Some(work) => work.withdraws_or_frees(),
+            None => 0,
+            Some(work) => work.frees_left(),
         }
     }
 
@@ -125,7 +126,7 @@ impl Marker {
             self.new ≡ record self.old { work = restarted_work plan self.old.work } }
     {
         if let Some(work) = &mut self.work {
-            work.restart();
+            work.program.restart();
         }
     }
 
@@ -178,7 +179,7 @@ impl Marker {
     {
         match &mut self.work {
             None => None,
-            Some(work) if work.is_done() => None,
+            Some(work) if work.program.is_done() => None,
             Some(work) => Some(work.step(plan, number, words, records)),
         }
     }
@@ -202,7 +203,7 @@ impl Marker {
     {
         match &mut self.work {
             None => 0,
-            Some(work) => work.run(plan, number, words, most),
+            Some(work) => work.program.run(plan, number, words, most),
         }
     }
 }

@@ -1,19 +1,17 @@
-ghost use Rattle.std.specs.Prelude.{◌≡◌, ◌+◌, ◌<◌, ◌≤◌, ◌++◌, ℕ, false, is_some, length, option_to_list, vec_capacity};
-ghost use Rattle.turns.specs.Attempt.{act, change, restarted, turn_in};
+ghost use Rattle.std.specs.Prelude.{◌≡◌, ◌+◌, ◌<◌, ◌≤◌, ◌++◌, ℕ, false, length, option_to_list, vec_capacity};
+ghost use Rattle.turns.specs.Attempt.{act, change, request_in};
 ghost use Rattle.turns.specs.Runs.{is_finished};
 ghost use Rattle.turns.specs.declared.phase.Phase.{Phase};
-ghost use Rattle.attempts.specs.WalkOnWords.{LeadsTo};
 ghost use Rattle.xbar_equip.specs.Word.{word_count};
-ghost use Rattle.xbar_plan.specs.Tables.{Tables};
 ghost use Rattle.xbar_jobs.specs.Attempt.{Attempt, counted, fresh, next_step, with_count};
 ghost use Rattle.xbar_jobs.specs.Office.{office};
 ghost use Rattle.xbar_jobs.specs.OnWords.{words_after};
-ghost use Rattle.xbar_jobs.specs.Standing.{IsValid};
-ghost use Rattle.xbar_moves.specs.AtWork.{conn_asked, withdraws_or_frees as withdraws_or_frees_in, answer_to_step};
-ghost use Rattle.xbar_moves.specs.Moves.{event_of, own_record, added_record};
+ghost use Rattle.xbar_jobs.specs.Standing.{IsValid, most_held};
+ghost use Rattle.xbar_moves.specs.AtWork.{conn_asked, answer_to_step};
+ghost use Rattle.xbar_moves.specs.Moves.{event_of, own_record, added_record, request_count};
 ghost use Rattle.xbar_core.specs.Standing.{waits_in};
 
-use xbar_equip::{Conn, conn_word};
+use xbar_equip::Conn;
 use xbar_jobs::{Answer, Program, Step};
 use xbar_moves::Event;
 use xbar_office::{Job, Record};
@@ -23,23 +21,7 @@ use xbar_plan::Plan;
 #[derive(Debug, Drop)]
 pub struct Work {
     job_no: u32,
-    program: Program,
-}
-
-/// Whether a step withdraws a request, or frees a connector.
-fn withdraws_or_frees(step: Step) -> bool
-    ensures { result ≡ withdraws_or_frees_in step }
-{
-    match step {
-        Step::Withdraw(_) | Step::Free(_) => true,
-        Step::Request(_)
-        | Step::Seize(_, _)
-        | Step::Test(_)
-        | Step::Turn
-        | Step::Close(_, _)
-        | Step::Open(_, _)
-        | Step::Finished => false,
-    }
+    pub(crate) program: Program,
 }
 
 /// The connector that a step requests or tries to seize.
@@ -83,43 +65,18 @@ impl Work {
         &self.program
     }
 
-    /// The job's next step: `Finished` once nothing is left of the job.
-    pub fn next_step(&self) -> Step
-        ensures { result ≡ next_step self.now.program.attempt }
+    /// How many steps give back all that the job holds: one withdraws its request, if it has one,
+    /// and one frees each connector.
+    pub fn frees_left(&self) -> u32
+        requires { length self.now.program.attempt.held ≤ most_held }
+        ensures { result ≡ request_count (request_in self.now.program.attempt.phase)
+            + length self.now.program.attempt.held }
     {
-        self.program.next()
-    }
-
-    /// Whether nothing is left of the job.
-    pub fn is_done(&self) -> bool
-        ensures { result ≡ is_finished (act self.now.program.attempt) }
-    {
-        self.program.is_done()
-    }
-
-    /// Whether the job has taken its turn.
-    pub fn is_past_turn(&self) -> bool
-        ensures { result ≡ is_some (turn_in self.now.program.attempt.phase) }
-    {
-        self.program.turn().is_some()
-    }
-
-    /// Whether the job's next step withdraws a request, or frees a connector.
-    pub fn withdraws_or_frees(&self) -> bool
-        ensures { result ≡ withdraws_or_frees_in (next_step self.now.program.attempt) }
-    {
-        withdraws_or_frees(self.program.next())
-    }
-
-    /// Restarts the job: the next steps give back all that is held, and then it begins anew. Past
-    /// the turn nothing changes.
-    pub fn restart(&mut self)
-        ensures { (plan : Tables) → self.new ≡ record self.old {
-          program = with_count self.old.program.count
-              (restarted (office plan) self.old.program.attempt);
-        } }
-    {
-        self.program.restart();
+        let held = self.program.held().len() as u32;
+        match self.program.requested() {
+            Some(_) => 1 + held,
+            None => held,
+        }
     }
 
     /// The job's record, once it has taken its turn.
@@ -162,7 +119,7 @@ impl Work {
         ensures { (a : Attempt) → step ≡ next_step a →
             result ≡ event_of marker self.now.job_no a self.now.program.attempt answer }
     {
-        if answer != Answer::Done || !self.is_done() {
+        if answer != Answer::Done || !self.program.is_done() {
             return Event::of_answer(asked_by(step), answer);
         }
         match self.record(marker) {
@@ -202,36 +159,5 @@ impl Work {
         let answer = self.program.step(plan, marker, words);
         self.enter(marker, answer, records);
         answer
-    }
-
-    /// Whether `Program::run` may make the next step: a request for a connector that nobody holds
-    /// or requests, a test, an effect, or a free past the turn.
-    fn goes_on(&self, words: &[u64]) -> bool {
-        match self.program.next() {
-            Step::Request(conn) => { words.get(usize::from(conn_word(conn).number())) == Some(&0) }
-            Step::Test(_) | Step::Close(_, _) | Step::Open(_, _) => true,
-            Step::Free(_) => self.is_past_turn(),
-            Step::Seize(_, _) | Step::Withdraw(_) | Step::Turn | Step::Finished => false,
-        }
-    }
-
-    /// Makes the job's next steps on the words, at most `most`, as far as it goes on by itself.
-    /// Returns their number. None of them is the turn.
-    #[tactic(auto, using(attempts::proofs::WalkRuns::made_none))]
-    pub fn run(&mut self, plan: &Plan, marker: u32, words: &mut [u64], most: u32) -> u32
-        requires plan { IsValid plan.now self.old.program.attempt }
-        requires marker { marker < 48 }
-        requires words { length words.old ≡ word_count }
-        ensures job { self.new.job_no ≡ self.old.job_no }
-        ensures steps { LeadsTo (office plan.now) marker result
-            (record { attempt = self.old.program.attempt; words = words.old })
-            (record { attempt = self.new.program.attempt; words = words.new }) }
-        ensures most { result ≤ most }
-    {
-        if self.goes_on(words) {
-            self.program.run(plan, marker, words, most)
-        } else {
-            0
-        }
     }
 }

@@ -112,29 +112,38 @@ fn write_fault<W: fmt::Write>(
             )
         }
         TableFault::UnknownGroup { group, .. } => {
-            let name = name_of(text, *group);
-            write!(f, ": no group has the name {name}")
+            write!(f, ": no group has the name {}", name_of(text, *group))
         }
         TableFault::RouteToRegisters { group, .. } => {
-            let name = name_of(text, *group);
-            write!(
-                f,
-                ": {name} has registers; expected intra groups or outgoing groups"
-            )
+            write_register_route(f, &name_of(text, *group))
         }
         TableFault::MixedRoute {
             intra,
             outgoing,
             ..
-        } => {
-            let (intra, outgoing) = (name_of(text, *intra), name_of(text, *outgoing));
-            write!(
-                f,
-                ": {intra} is intra and {outgoing} is outgoing; expected groups of one kind"
-            )
-        }
+        } => { write_mixed_route(f, &name_of(text, *intra), &name_of(text, *outgoing)) }
         TableFault::Memory => f.write_str(": memory ran out"),
     }
+}
+
+/// Writes that a route leads to a group of registers.
+fn write_register_route<W: fmt::Write>(f: &mut fmt::Formatter<W>, group: &Bare<'_>) -> fmt::Result {
+    write!(
+        f,
+        ": {group} has registers; expected intra groups or outgoing groups"
+    )
+}
+
+/// Writes that a route leads to intra groups and to outgoing groups.
+fn write_mixed_route<W: fmt::Write>(
+    f: &mut fmt::Formatter<W>,
+    intra: &Bare<'_>,
+    outgoing: &Bare<'_>,
+) -> fmt::Result {
+    write!(
+        f,
+        ": {intra} is intra and {outgoing} is outgoing; expected groups of one kind"
+    )
 }
 
 /// The name of the group with this index in the text of a code.

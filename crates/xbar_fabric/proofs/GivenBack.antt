@@ -3,10 +3,10 @@ use Rattle.std.proofs.Common.{◌≡◌, ℕ, zero, suc, Bool, true, false, refl
 use Rattle.{atomic_table.specs.Seated.TableId, turns.specs.{Attempt.{act, begin_with, change, turn_in}, Runs.is_finished, World.{Idle, Does}}}
 use Rattle.turns.specs.{declared.phase.Phase.TheVariants.{Requests, Seizes, Tests, Turns, Withdraws, GivesBack, Operates}, Outcomes.given_back}
 use Rattle.{xbar_plan.specs.Tables.Tables, xbar_jobs.specs.{Attempt.{Attempt, Phase}, Jobs.first_conn, Office.office}}
-use Rattle.xbar_moves.specs.{Exchange.Work, Moves.{event_of, given_by}, declared.kind.Kind.Kind}
+use Rattle.xbar_moves.specs.{Exchange.Work, Moves.{event_of, given_by}, declared.kinds.Kind.Kind}
 use Rattle.xbar_fabric.{specs.Advances.{MarkerHasGivenBack, MarkerHasMade}, proofs.{Offices.Order, Steps.{desk_at, has_stepped}}}
 use Rattle.desks.specs.Desks as desks
-use Rattle.xbar_moves.specs.declared.given.Given.TheVariants as given
+use Rattle.xbar_moves.specs.declared.event.Given.TheVariants as given
 
 pub not_turned : (rests turned : Bool) → (if rests then given.Idle else (if turned then given.PastTurn else given.Given)) ≡ given.Given → turned ≡ false
 not_turned true turned is = absurd cc

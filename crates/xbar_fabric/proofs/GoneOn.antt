@@ -3,7 +3,7 @@ use Rattle.std.proofs.Common.{◌≡◌, ℕ, Bool, true, false, refl, sym, ◌�
 use Rattle.{atomic_table.specs.Seated.TableId, turns.specs.{Law.IsLegal, Runs.is_available, declared.answer.Answer.Answer}}
 use Rattle.{desks.{specs.declared.progress.JobRecord.JobRecord, proofs.Ending.{tells_at_end, told_at_end}}, xbar_plan.specs.{Tables.Tables, Lawful.IsLawful}}
 use Rattle.{xbar_office.specs.declared.{job.Job.Job, reply.Reply.Reply}, xbar_jobs.specs.Office.office}
-use Rattle.{xbar_moves.specs.{Exchange.{Work, is_idle}, declared.kind.Kind.Kind}, xbar_fabric.specs.Advances.IsAnswered}
+use Rattle.{xbar_moves.specs.{Exchange.{Work, is_idle}, declared.kinds.Kind.Kind}, xbar_fabric.specs.Advances.IsAnswered}
 use Rattle.xbar_fabric.proofs.{Offices.Order, Steps.{has_stepped, is_answered}, ToldSteps.{finishes_job, free_idle, moves, never_idle, new, old, stays}}
 use Rattle.turns.specs.World as worlds
 use Rattle.desks.specs.Desks as desks

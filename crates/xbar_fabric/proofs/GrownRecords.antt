@@ -2,16 +2,16 @@
 use Rattle.std.proofs.Common.{◌≡◌, ℕ, zero, suc, Bool, true, false, List, [], ◌∷◌, ◌++◌, append-nil, append_assoc, inl, inr, refl, sym, ◌∙◌, ap, subst, Option}
 use Rattle.std.proofs.Common.{Some, None, is_some, option_map, slice_get, unwrap_or}
 use Rattle.{std.proofs.lemmas.Option.same_Some, turns.specs.{Attempt.{act, change, turn_in}, Runs.is_finished, World.{Idle, Does}}}
-use Rattle.{turns.specs.declared.answer.Answer.Answer, xbar_equip.specs.declared.conn.Conn.Conn, xbar_office.specs.declared.{job.Job.Job, reply.Record.Record}}
-use Rattle.{xbar_office.specs.declared.reply.Reply.Reply, xbar_jobs.specs.{Attempt.Attempt, Office.office}, xbar_moves.specs.AtWork.answer_to_step}
-use Rattle.xbar_moves.specs.{Exchange.{Exchange, Marker, Work, is_idle, on_job}, Moves.{added_record, after_step, event_of, finished, given_by, moved_on}}
-use Rattle.xbar_moves.{specs.{Moves.{own_record, record_of, refused_by, restarted_work}, declared.event.Event.Event}, proofs.StepCases.{IsMade, gone_on, step_cases}}
-use Rattle.{xbar_moves.proofs.Steps.has_come, xbar_fabric.specs.Advances.{MarkerHasAdvanced, MarkerHasGivenBack, MarkerHasMade, MarkerHasStepped, at_beginning}}
-use Rattle.xbar_fabric.specs.{Histories.{job_at, turned_of}, Views.{DeskView, marker_of, mine, own}}
+use Rattle.{turns.specs.declared.answer.Answer.Answer, xbar_equip.specs.declared.conn.Conn.Conn}
+use Rattle.{xbar_office.specs.declared.{job.Job.Job, reply.{Record.Record, Reply.Reply}}, xbar_jobs.specs.{Attempt.Attempt, Office.office}}
+use Rattle.xbar_moves.specs.{AtWork.answer_to_step, Exchange.{Exchange, Marker, Work, is_idle, on_job}, Moves.{added_record, after_step, event_of, finished}}
+use Rattle.xbar_moves.specs.{Moves.{given_by, moved_on, own_record, record_of, refused_by, restarted_work}, declared.event.Event.Event}
+use Rattle.{xbar_moves.proofs.{StepCases.{IsMade, gone_on, step_cases}, Steps.has_come}, xbar_fabric.specs.Advances.{MarkerHasAdvanced, MarkerHasGivenBack}}
+use Rattle.xbar_fabric.specs.{Advances.{MarkerHasMade, MarkerHasStepped, at_beginning}, Histories.{job_at, turned_of}, Views.{DeskView, marker_of, mine, own}}
 use Rattle.xbar_fabric.proofs.{GivenBack.not_turned, OwnRecords.{changed_job, own_added, own_append, step_grows}}
 use Rattle.turns.specs.declared.answer.Answer.TheVariants as answer
 use Rattle.xbar_moves.specs.declared.event.Event.TheVariants as event
-use Rattle.xbar_moves.specs.declared.given.Given.TheVariants as given
+use Rattle.xbar_moves.specs.declared.event.Given.TheVariants as given
 
 -- the record of marker k's job, once that has turned
 abbrev turned_at : ℕ → Work → List Record

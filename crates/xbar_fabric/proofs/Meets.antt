@@ -2,7 +2,7 @@
 use Rattle.std.proofs.Common.{◌≡◌, ℕ, ◌%◌, ◌^◌, List, [], length, map, refl, sym, ◌∙◌, ap, subst, slice_index}
 use Rattle.{atomic_table.specs.Seated.TableId, turns.specs.{System.AreWords, World.World}}
 use Rattle.{xbar_equip.specs.{Conn.IsConn, Word.{TurnWord, word_number}, declared.conn.Conn.Conn}, xbar_plan.specs.Tables.Tables, xbar_office.specs.Legal.after}
-use Rattle.{xbar_jobs.specs.Office.{ShowsOffice, office}, xbar_moves.{specs.{Exchange.{Exchange, Work}, declared.kind.Kind.Kind}, proofs.Records.after_same}}
+use Rattle.{xbar_jobs.specs.Office.{ShowsOffice, office}, xbar_moves.{specs.{Exchange.{Exchange, Work}, declared.kinds.Kind.Kind}, proofs.Records.after_same}}
 use Rattle.xbar_fabric.specs.{Meetings.{AreWordsAfter, MarkerHasLearned, MarkersHaveMet, IsFreeConn, FabricIsShut}, Views.entered}
 use Rattle.xbar_fabric.proofs.Offices.{Order, begins_entered, is_history, is_lawful, length-entered, length-made, marker_made, office_of, own_same}
 use Rattle.xbar_fabric.proofs.{Offices.turned_entered, Steps.desk_at}

@@ -1,7 +1,7 @@
 -- the desks of an opening, one more at a time
 use Rattle.std.proofs.Common.{refl, ◌≡◌, ℕ, zero, suc, true, ◌+◌, ◌<◌, List, [], ◌∷◌, ◌++◌, length, get_or, drop, drop-cons, sym, ap, subst, ◌∙◌, arith}
 use Rattle.std.proofs.Common.{append_assoc, IfSome, slice_get}
-use Rattle.{xbar_plan.specs.Tables.Tables, xbar_moves.specs.{declared.kind.Kind.{Kind, TheVariants.Dial}, Exchange.is_idle}}
+use Rattle.{xbar_plan.specs.Tables.Tables, xbar_moves.specs.{declared.kinds.Kind.{Kind, TheVariants.Dial}, Exchange.is_idle}}
 use Rattle.xbar_fabric.specs.{Meetings.AreAllIdle, Views.{AreDesksOf, DeskView, FabricView, IsDeskOf, RoomDesk, new_desks, view_at}}
 use Rattle.desks.specs.Views as views
 

@@ -5,7 +5,7 @@ use mathlib.Core.Option.{some, some-injective, some-ne-none}
 use lib.ListN.{get_elem?}
 use Rattle.{turns.specs.{Law.Lawful, World.World}, desks.specs.Parts.Begins, xbar_plan.specs.Tables.Tables}
 use Rattle.{xbar_office.specs.declared.{job.Job.Job, reply.{Record.Record, Reply.Reply}}, xbar_jobs.specs.Office.office}
-use Rattle.xbar_moves.specs.{Exchange.{Exchange, IsLawfulExchange, Marker, Work, turned, world}, declared.kind.Kind.Kind}
+use Rattle.xbar_moves.specs.{Exchange.{Exchange, IsLawfulExchange, Marker, Work, turned, world}, declared.kinds.Kind.Kind}
 use Rattle.{xbar_moves.proofs.{Markers.works, Records.{jobs_legal, replies_legal, turns_legal}}, xbar_fabric.specs.{Histories.IsHistory, Views.{entered, own}}}
 use Rattle.turns.specs.Law as law
 use Rattle.turns.specs.World as worlds

@@ -6,7 +6,7 @@ use Rattle.xbar_fabric.specs.{Advances.{MarkerHasAdvanced, MarkerHasGivenBack, M
 use Rattle.xbar_fabric.{specs.{Reports.{MarkerHasWorked, ended, reported_by, unreported}, Views.{DeskView, mine}}, proofs.GrownRecords.{HasGrown, advance_ends}}
 use Rattle.xbar_fabric.proofs.{GrownRecords.{advance_grown, back_adds_none, both_grown, still_grown}, Growing.{begins_same, run_begins, steps_begin}}
 use Rattle.xbar_moves.specs.declared.event.Event.TheVariants as event
-use Rattle.xbar_moves.specs.declared.given.Given.TheVariants as given
+use Rattle.xbar_moves.specs.declared.event.Given.TheVariants as given
 
 -- a record is reported, or is still to be reported
 pub one_of_both : (idle : Bool) (l : List Record) → (if idle then l else []) ++ (if idle then [] else l) ≡ l
@@ -14,7 +14,7 @@ one_of_both true l = append-nil l
 one_of_both false l = refl
 
 -- there is none to be reported
-none_left : (idle : Bool) (l : List Record) → l ≡ [] → (if idle then [] else l) ≡ []
+pub none_left : (idle : Bool) (l : List Record) → l ≡ [] → (if idle then [] else l) ≡ []
 none_left true l none = refl
 none_left false l none = none
 

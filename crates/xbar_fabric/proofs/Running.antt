@@ -2,7 +2,7 @@
 use Rattle.std.proofs.Common.{◌≡◌, ◌<◌, ℕ, zero, suc, false, arith, refl, sym, ◌∙◌, subst}
 use Rattle.{atomic_table.specs.Seated.TableId, turns.specs.{Attempt.change, Law.IsLegal, Runs.is_available, declared.answer.Answer.Answer}}
 use Rattle.{xbar_plan.specs.{Tables.Tables, Lawful.IsLawful}, xbar_jobs.specs.Office.office}
-use Rattle.{xbar_moves.specs.{Exchange.{Work, is_idle}, Moves.event_of, declared.kind.Kind.Kind}, xbar_fabric.specs.{Advances.MarkerHasRun, Views.HasJobNo}}
+use Rattle.{xbar_moves.specs.{Exchange.{Work, is_idle}, Moves.event_of, declared.kinds.Kind.Kind}, xbar_fabric.specs.{Advances.MarkerHasRun, Views.HasJobNo}}
 use Rattle.xbar_fabric.proofs.{GoneOn.step_answered, Offices.Order, Steps.{desk_at, goes_on_at}, ToldSteps.{free_idle, moves}}
 use Rattle.desks.specs.Desks as desks
 

@@ -10,7 +10,7 @@ use Rattle.desk_attempts.specs.contracts.jobs.AttemptsJobs.TheImpl as jobs
 use Rattle.atomic_table.below.core.specs.contracts.clone.Clone+copy.TheImpl as copies
 use Rattle.desks.proofs.desk.Desk.TheSendSync as below
 use Rattle.std.specs.contracts.snapshot.Snapshot as snapshot
-use Rattle.xbar_moves.proofs.kind.Kind.TheSendSync as kind_sent
+use Rattle.xbar_moves.proofs.kinds.Kind.TheSendSync as kind_sent
 use Rattle.xbar_equip.proofs.conn.Conn.TheSendSync as conn_sent
 use Rattle.xbar_equip.specs.contracts.conn.Conn as conn
 use Rattle.xbar_equip.specs.contracts.conn.ConnDefault.TheImpl as conn_default
@@ -22,11 +22,11 @@ use Rattle.xbar_fabric.specs.contracts.office.OfficesInRoomOfficeRoomREADINGSHEL
 use Rattle.xbar_jobs.specs.contracts.offices.Offices as offices
 use Rattle.xbar_jobs.specs.contracts.offices.OfficesOnWordsREADINGSHELD.TheImpl as on_words
 use Rattle.xbar_jobs.specs.contracts.offices.OfficesScriptsREADINGSHELD.TheImpl as scripts
-use Rattle.xbar_jobs.proofs.decided.Decided.TheSendSync as decided_sent
-use Rattle.xbar_jobs.proofs.walk_progress.WalkProgress.TheSendSync as progress_sent
-use Rattle.xbar_jobs.specs.contracts.decided.Decided as decided
-use Rattle.xbar_jobs.specs.contracts.office_effect.OfficeEffect as effect
-use Rattle.xbar_jobs.specs.contracts.walk_progress.WalkProgress as point
+use Rattle.xbar_jobs.proofs.decision.Decided.TheSendSync as decided_sent
+use Rattle.xbar_jobs.proofs.walk.WalkProgress.TheSendSync as progress_sent
+use Rattle.xbar_jobs.specs.contracts.decision.Decided as decided
+use Rattle.xbar_jobs.specs.contracts.effect.OfficeEffect as effect
+use Rattle.xbar_jobs.specs.contracts.walk.WalkProgress as point
 use Rattle.xbar_office.proofs.job.Job.TheSendSync as job_sent
 use Rattle.xbar_office.specs.contracts.job.Job as job
 use Rattle.xbar_office.specs.contracts.reply.Reply as reply

@@ -6,7 +6,7 @@ use Rattle.{atomic_table.specs.Seated.TableId, xbar_equip.specs.declared.conn.Co
 use Rattle.xbar_office.specs.declared.{job.Job.Job, reply.Reply.Reply}
 use Rattle.xbar_jobs.specs.{declared.effect.Effect.Effect, Attempt.{Act, Attempt, next_step}, Office.office, OnWords.step_answer}
 use Rattle.{xbar_jobs.proofs.StepActs.{act_answer, act_word}, xbar_moves.specs.{AtWork.answer_to_step, Exchange.{Exchange, IsLawfulExchange, Work, world}}}
-use Rattle.xbar_moves.specs.{Holding.IsAt, Moves.{after_step, event_at_step, event_by, event_of}, declared.{event.Event.Event, kind.Kind.Kind}}
+use Rattle.xbar_moves.specs.{Holding.IsAt, Moves.{after_step, event_at_step, event_by, event_of}, declared.{event.Event.Event, kinds.Kind.Kind}}
 use Rattle.xbar_moves.proofs.{Markers.marker_set, StepCases.step_made, Stepping.event_there, WorldMoves.{has_to_give, steps_in_world}}
 use Rattle.xbar_fabric.specs.{Advances.MarkerHasStepped, Views.{DeskView, AgreesWith, entered, view_at}}
 use Rattle.xbar_fabric.proofs.Offices.{Order, begins_entered, entered_turned, is_lawful, marker_at, marker_made, office_of, own_same, world_is}

@@ -9,7 +9,7 @@ use Rattle.{turns.{specs.declared.phase.Phase.TheVariants.{Turns, Operates}, pro
 use Rattle.{xbar_equip.specs.declared.conn.Conn.Conn, xbar_plan.specs.{Tables.Tables, Lawful.IsLawful}, xbar_office.specs.declared.job.Job.Job}
 use Rattle.{xbar_office.specs.declared.reply.{Record.Record, Reply.Reply}, xbar_jobs.{specs.{Attempt.Attempt, Office.office}, proofs.OfficeSystem.office_is}}
 use Rattle.xbar_moves.specs.{Exchange.{Work, is_idle, on_job}, Moves.{event_at_step, event_of, finished, moved_on, record_of, refused_by}}
-use Rattle.xbar_moves.{specs.declared.{event.Event.Event, kind.Kind.Kind}, proofs.{FinishedJobs.{finished_at, finishes}, Steps.step_adds}}
+use Rattle.xbar_moves.{specs.declared.{event.Event.Event, kinds.Kind.Kind}, proofs.{FinishedJobs.{finished_at, finishes}, Steps.step_adds}}
 use Rattle.xbar_fabric.{specs.{Advances.MarkerHasAdvanced, Histories.IsReportedRecord, Views.{DeskView, entered}}, proofs.Finishing.{decides_none, ends_done}}
 use Rattle.xbar_fabric.proofs.{Offices.{Order, begins_entered, own_entered}, Steps.{at, came, desk_at, e, has_stepped, lawful, seen_is}}
 use Rattle.turns.specs.World as worlds

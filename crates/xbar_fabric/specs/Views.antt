@@ -11,7 +11,7 @@ use Rattle.xbar_office.specs.declared.reply.Record.{Record}
 use Rattle.xbar_office.specs.declared.reply.Reply.{Reply}
 use Rattle.xbar_jobs.specs.declared.effect.Effect.{Effect}
 use Rattle.xbar_moves.specs.Exchange.{Exchange, IsLawfulExchange, Marker, Work, on_job}
-use Rattle.xbar_moves.specs.declared.kind.Kind.{Kind}
+use Rattle.xbar_moves.specs.declared.kinds.Kind.{Kind}
 
 -- the shared words as callers see them: their table, their plan, and the number of desks that they
 -- were opened with

@@ -4,7 +4,6 @@ ghost use Rattle.std.specs.Prelude.{◌≡◌, ◌≢◌, ◌+◌, ◌<◌, ◌^
 ghost use Rattle.desks.specs.Desks.{as_record};
 ghost use Rattle.desks.specs.Running.{NothingLeftPastTurn};
 ghost use Rattle.desks.specs.Watching.{watched_more};
-ghost use Rattle.xbar_moves.specs.Exchange.{is_idle};
 ghost use Rattle.xbar_moves.specs.Moves.{given_by};
 ghost use Rattle.xbar_fabric.specs.Advances.{MarkerHasAdvanced, MarkerHasGivenBack, MarkerHasRun, IsAnswered};
 ghost use Rattle.xbar_fabric.specs.Histories.{turned_of};
@@ -43,10 +42,7 @@ impl Desk {
         ensures same { self.new ≡ record (self.old) { work = self.new.work; seen = self.new.seen } }
         ensures answered { IsAnswered self.old self.new result }
     {
-        let answer = self.desk.step(&fabric.room, fabric.plan);
-        // Called only for its contract, that what the desk has seen is legal.
-        let _number = self.desk.number();
-        answer
+        self.desk.step(&fabric.room, fabric.plan)
     }
 
     /// Makes next steps of the marker that ask for no connector, and so can't be denied: tests,

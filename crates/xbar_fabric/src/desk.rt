@@ -1,4 +1,4 @@
-ghost use Rattle.std.specs.Prelude.{◌≡◌, OnOk, OnErr, Some, None, MatchResult, true, false};
+ghost use Rattle.std.specs.Prelude.{◌≡◌, Some, None, MatchResult, false};
 ghost use Rattle.turns.specs.Attempt.{begin_with};
 ghost use Rattle.turns.specs.World.{Does};
 ghost use Rattle.xbar_jobs.specs.Jobs.{first_conn};

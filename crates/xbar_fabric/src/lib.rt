@@ -18,4 +18,3 @@ mod meeting;
 mod note;
 mod office;
 mod shutting;
-mod word_places;

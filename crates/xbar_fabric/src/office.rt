@@ -1,4 +1,3 @@
-use crate::word_places::{PLACE_COUNT, place};
 use desk_attempts::{Attempts, InRoom};
 use std::alloc::{AllocError, Global};
 use std::ops::Range;
@@ -27,12 +26,19 @@ impl InRoom<OfficeRoom, READINGS, HELD> for Offices {
         Snapshot::of(plan)
     }
 
+    // The frames' words stand side by side. Each group's word, each connector's and the turn word,
+    // which markers change most, stand 128 bytes apart: a processor fetches two cache lines of 64
+    // bytes at a time.
     fn place(_plan: &Plan, word: usize) -> usize {
-        place(word)
+        if word < 400 {
+            word
+        } else {
+            400 + (word - 400) * 16
+        }
     }
 
     fn place_count(_plan: &Plan) -> usize {
-        PLACE_COUNT
+        1248
     }
 
     fn initial(alloc: Global, _plan: &Plan) -> Result<Vec<u64>, AllocError> {

@@ -6,7 +6,7 @@ use Rattle.{xbar_plan.proofs.LawfulLookups.{lines_of-count, route_of-count}, xba
 use Rattle.xbar_jobs.specs.{Closing.{leave_effects, leave_of, leaving, value_after}, Completing.{call, call_by, call_from, call_line, call_number}}
 use Rattle.xbar_jobs.specs.{Completing.{call_without, complete_from, complete_steps, hunt, register_at, unless_busy, unless_calling}, Connecting.alone}
 use Rattle.xbar_jobs.specs.{Script.{Script, as_if_made}, Sides.party_after, Tracing.{approach, channel_of, trace}, declared.decision.Decision.Decision}
-use Rattle.xbar_jobs.{specs.declared.{leave.Leave.Leave, party.Party.Party}, proofs.AskBounds.{Asks, asks_bind, asks_end, asks_more, asks_read, asks_then}}
+use Rattle.xbar_jobs.{specs.declared.{decision.Leave.Leave, party.Party.Party}, proofs.AskBounds.{Asks, asks_bind, asks_end, asks_more, asks_read, asks_then}}
 use Rattle.xbar_jobs.proofs.{Items.if_found, TrialBounds.connect_asks, TracingBounds.{approach_asks, trace_asks}}
 
 -- each line that is hunted has a test and a seizing

@@ -7,10 +7,10 @@ use Rattle.xbar_equip.{specs.{Paths.{has_line, is_idle, without_path}, declared.
 use Rattle.xbar_plan.specs.{Tables.{Tables, member_place, register_group, route_of}, Lawful.IsLawful, declared.group.MemberPlace.MemberPlace}
 use Rattle.{xbar_plan.proofs.MemberPlaces.member_place-numbers, xbar_office.specs.{Done.Done, Standing.{if_register as path_if_register, path_of}}}
 use Rattle.xbar_office.{specs.declared.reply.End.TheVariants.NoRegister, proofs.RegisterPaths.line-without}
-use Rattle.xbar_jobs.specs.Closing.{effect_word, effects, leave_effects, leave_of, leaving, value_after, take_effects}
-use Rattle.xbar_jobs.specs.{Completing.{call, call_from, call_without, complete_from, complete_steps, if_register}, Office.{ShowsOffice, office}}
-use Rattle.xbar_jobs.specs.{Script.as_if_made, Sides.party_after, Tracing.{approach, trace}, declared.{decision.Decision.Decision, effect.Effect.Effect}}
-use Rattle.xbar_jobs.{specs.declared.{leave.Leave.Leave, party.Party.Party}, proofs.{CallDecides.call_takes, DialDecides.{DecidesOn, TakesOn, refused_takes}}}
+use Rattle.xbar_jobs.specs.{Closing.{effect_word, effects, leave_effects, leave_of, leaving, value_after, take_effects}, Completing.{call, call_from}}
+use Rattle.xbar_jobs.specs.{Completing.{call_without, complete_from, complete_steps, if_register}, Office.{ShowsOffice, office}, Script.as_if_made}
+use Rattle.xbar_jobs.specs.{Sides.party_after, Tracing.{approach, trace}, declared.{decision.{Decision.Decision, Leave.Leave}, effect.Effect.Effect}}
+use Rattle.xbar_jobs.{specs.declared.party.Party.Party, proofs.{CallDecides.call_takes, DialDecides.{DecidesOn, TakesOn, refused_takes}}}
 use Rattle.xbar_jobs.proofs.{LeaveEffects.{IsLeave, leave_due, leave_shows, register_leave}, TakenMembers.{due-append, perform_all-append}}
 use Rattle.xbar_jobs.proofs.{TestedParties.{opens_below, party_after-tested, party_of, party_of-tested}, TracedRuns.{approach_runs, trace_runs, traced_shown}}
 use Rattle.turns.specs.Among as turns

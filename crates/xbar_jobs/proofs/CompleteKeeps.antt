@@ -3,15 +3,15 @@ use Rattle.std.proofs.Common.{◌≡◌, ℕ, suc, ◌<◌, ◌==◌, Bool, true
 use Rattle.std.proofs.Common.{slice_get}
 use Rattle.turns.{specs.{Script.{Ends, ◌>>=◌}, System.KeepsTo}, proofs.{Lists.in_last, ReadWith.keeps_read_with}}
 use Rattle.xbar_equip.specs.{Dialled.{code_of, number_of}, Len.{Line, IsLine, line_eq}, declared.{conn.Conn.{Conn, TheVariants.Group}, path.Path.Path}}
-use Rattle.xbar_plan.specs.{Lawful.IsLawful, Tables.{Tables, lines_of, member_place, register_group, route_of}, declared.group.MemberPlace.MemberPlace}
-use Rattle.xbar_plan.proofs.{LawfulLookups.{lines_of-range, route_of-range}, MemberPlaces.member_place-numbers}
-use Rattle.xbar_office.specs.{Trunks.{AreGroups, leads_inside}, declared.aim.Aim.TheVariants.Connected}
-use Rattle.{xbar_office.specs.declared.reply.End.TheVariants.{CalledBusy, NoRegister, VacantCode, VacantNumber}, xbar_jobs.specs.Closing.leave_effects}
-use Rattle.xbar_jobs.specs.{Closing.{leave_of, leaving, value_after}, Completing.{call, call_by, call_from, call_line, call_number, call_without}}
-use Rattle.xbar_jobs.specs.{Completing.{complete_from, complete_steps, hunt, if_register, register_at, unless_busy, unless_calling}, Connecting.alone}
-use Rattle.xbar_jobs.specs.{Office.office, Script.{Script, as_if_made}, Sides.party_after, Tracing.{approach, channel_of, trace}, declared.leave.Leave.Leave}
-use Rattle.xbar_jobs.{specs.declared.party.Party.Party, proofs.{ConnectKeeps.connect_keeps, FittingEffects.leave_words, HeldEffects.{IsHeldIfAny, IsHeldLeave}}}
-use Rattle.xbar_jobs.proofs.HeldEffects.{IsHeldPath, IsTaking, IsWellCovered, leave_held, leaving_covered, line_held, path_held, refused_takes, taking_covered}
+use Rattle.xbar_plan.specs.{Lawful.IsLawful, Tables.{Tables, lines_of, member_place, register_group, route_of, AreGroups}}
+use Rattle.xbar_plan.{specs.declared.group.MemberPlace.MemberPlace, proofs.{LawfulLookups.{lines_of-range, route_of-range}, MemberPlaces.member_place-numbers}}
+use Rattle.xbar_office.specs.{Trunks.leads_inside, declared.{aim.Aim.TheVariants.Connected, reply.End.TheVariants.{CalledBusy, NoRegister, VacantCode}}}
+use Rattle.{xbar_office.specs.declared.reply.End.TheVariants.VacantNumber, xbar_jobs.specs.Closing.{leave_effects, leave_of, leaving, value_after}}
+use Rattle.xbar_jobs.specs.Completing.{call, call_by, call_from, call_line, call_number, call_without, complete_from, complete_steps, hunt, if_register}
+use Rattle.xbar_jobs.specs.{Completing.{register_at, unless_busy, unless_calling}, Connecting.alone, Office.office, Script.{Script, as_if_made}}
+use Rattle.xbar_jobs.specs.{Sides.party_after, Tracing.{approach, channel_of, trace}, declared.{decision.Leave.Leave, party.Party.Party}}
+use Rattle.xbar_jobs.proofs.{ConnectKeeps.connect_keeps, FittingEffects.leave_words, HeldEffects.{IsHeldIfAny, IsHeldLeave, IsHeldPath, IsTaking}}
+use Rattle.xbar_jobs.proofs.HeldEffects.{IsWellCovered, leave_held, leaving_covered, line_held, path_held, refused_takes, taking_covered}
 use Rattle.xbar_jobs.proofs.{HeldWords.{keeps_then, one_more}, Items.if_found, TracingKeeps.{HoldsLine, approach_keeps, trace_keeps}}
 
 -- the line of a party that was found is held

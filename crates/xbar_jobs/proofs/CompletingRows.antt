@@ -8,8 +8,8 @@ use Rattle.xbar_office.specs.{Legal.IsJob, Trunks.leads_inside, declared.{aim.Ai
 use Rattle.xbar_jobs.specs.{Closing.{leave_effects, leave_of, value_after}, Completing.{call, call_by, call_from, call_line, call_number, call_without}}
 use Rattle.xbar_jobs.specs.{Completing.{complete_from, complete_steps, hunt, register_at, unless_busy, unless_calling}, Connecting.alone}
 use Rattle.xbar_jobs.specs.{Jobs.{TestsRows, job_line, script}, Script.{Script, Seen, as_if_made, walk}, Sides.{IsNextJunctor, party_after}}
-use Rattle.xbar_jobs.specs.{Tracing.{HasTraced, ResumePointIsValid, approach, channel_of, trace}, declared.{decision.Decision.Decision, leave.Leave.Leave}}
-use Rattle.xbar_jobs.specs.declared.{party.Party.Party, walk_progress.WalkProgress.{WalkProgress, TheVariants.{Begun, Approached, Traced}}}
+use Rattle.xbar_jobs.specs.{Tracing.{HasTraced, ResumePointIsValid, approach, channel_of, trace}, declared.decision.{Decision.Decision, Leave.Leave}}
+use Rattle.xbar_jobs.specs.declared.{party.Party.Party, walk.WalkProgress.{WalkProgress, TheVariants.{Begun, Approached, Traced}}}
 use Rattle.xbar_jobs.proofs.{Items.if_found, JunctorRows.{BeginsWith, KeepsRows, connect_rows, dial_rows, row_goes_on, rows_bind}}
 
 begins_read_with : {A : Type 0} (number : ℕ) (change : ℕ → ℕ → ℕ) (script : Script A) → BeginsWith number script → BeginsWith number (read_with change script)

@@ -1,8 +1,8 @@
 -- connecting parties by a group's member tests what is held by then, and takes what is held
 use Rattle.std.proofs.Common.{ℕ, suc, ◌<◌, List, [], ◌∷◌, ◌++◌, refl, arith, Option, Some, None, IfSome, option_map}
 use Rattle.{turns.{specs.{Among.IsIn, Script.◌>>=◌, System.KeepsTo}, proofs.Lists.in_last}, xbar_equip.specs.declared.conn.Conn.{Conn, TheVariants.Group}}
-use Rattle.xbar_plan.{specs.{Lawful.IsLawful, Tables.Tables}, proofs.LawfulPlans.group_count-range}
-use Rattle.{xbar_office.specs.{Trunks.AreGroups, declared.{aim.Aim.Aim, two_trials.{Choice.Choice, Trials.Trials}}}, xbar_jobs.specs.Closing.{take_of, tried}}
+use Rattle.xbar_plan.{specs.{Lawful.IsLawful, Tables.{Tables, AreGroups}}, proofs.LawfulPlans.group_count-range}
+use Rattle.{xbar_office.specs.declared.{aim.Aim.Aim, trial.{Choice.Choice, Trials.Trials}}, xbar_jobs.specs.Closing.{take_of, tried}}
 use Rattle.xbar_jobs.specs.{Connecting.{busy_end, connect, try_trunk}, Office.office, Script.Script, Trunks.{find_trunk, first_clear, idle_or, trunks_of}}
 use Rattle.xbar_jobs.{specs.declared.{party.CallParties.CallParties, trunks.IdleGroup.IdleGroup}, proofs.HeldEffects.{IsHeldTake, IsTaking, refused_takes}}
 use Rattle.xbar_jobs.proofs.{HeldWords.{group_under, keeps_then}, TrialKeeps.{AreHeldParties, HoldsTrials, IsHeldChoice, parties_held, two_trials_keep}}

@@ -5,7 +5,7 @@ use Rattle.xbar_equip.specs.{Among.IsIn, Len.{Line, IsLine}, Paths.{has_line, is
 use Rattle.{xbar_plan.specs.{Tables.{Tables, register_group}, Lawful.IsLawful}, xbar_office.specs.Complete.{connect as office_connect, try_trunk as office_try}}
 use Rattle.xbar_office.specs.{Dial.{dial, dial_register}, Done.{Done, tried as office_tried, refused as office_refused}, Members.{members_of, first_idle}}
 use Rattle.xbar_office.specs.{Trunks.{idle_trunk, trunk_or}, TwoTrials.two_trials, declared.{aim.Aim.{Aim, TheVariants.{DialTone, Connected}}, reply.Card.Card}}
-use Rattle.xbar_office.specs.declared.{reply.End.{End, TheVariants.LineBusy}, route.IdleTrunk.IdleTrunk, two_trials.{Choice.Choice, Trials.Trials}}
+use Rattle.xbar_office.specs.declared.{reply.End.{End, TheVariants.LineBusy}, route.IdleTrunk.IdleTrunk, trial.{Choice.Choice, Trials.Trials}}
 use Rattle.xbar_office.proofs.{CallJobs.idle_trunk-is, DialJobs.are_parties, GoodTrials.{AreParties, GoodChoice, good_trials}}
 use Rattle.xbar_jobs.specs.{Closing.{refused, tried}, Connecting.{alone, busy_end, connect}, Jobs.{dial_steps, serve_idle_line}, Office.{ShowsOffice, office}}
 use Rattle.xbar_jobs.specs.{Tracing.{approach, channel_of}, declared.{decision.Decision.Decision, party.{CallParties.CallParties, Party.Party}}}

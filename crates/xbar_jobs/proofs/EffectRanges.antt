@@ -3,7 +3,7 @@ use Rattle.std.proofs.Common.{◌<◌, List, [], ◌∷◌, ◌++◌, map, inl, 
 use Rattle.{turns.proofs.Lists.in_either, xbar_equip.specs.{Crosspoint.crosspoints, Path.IsPath, declared.{crosspoint.Crosspoint.Crosspoint, path.Path.Path}}}
 use Rattle.xbar_match.{specs.Effects.IsCrosspoint, proofs.PathEffects.{crosspoint_line, crosspoint_line_junctor, crosspoint_trunk_junctor, crosspoint_trunk}}
 use Rattle.xbar_jobs.specs.{Closing.{leave_effects, other_opens, path_closes, path_opens}, Keeping.{AreEffects, IsEffect}, declared.effect.Effect.Effect}
-use Rattle.xbar_jobs.specs.declared.{effect.Effect.TheVariants.{Close, Open, ClearBit}, leave.Leave.Leave}
+use Rattle.xbar_jobs.specs.declared.{effect.Effect.TheVariants.{Close, Open, ClearBit}, decision.Leave.Leave}
 
 -- the effects of both lists are in range, if those of each are
 pub both_range : (effects others : List Effect) → AreEffects effects → AreEffects others → AreEffects (effects ++ others)

@@ -5,7 +5,7 @@ use Rattle.xbar_equip.specs.{Crosspoint.crosspoints, declared.{conn.Conn.Conn, c
 use Rattle.{xbar_switch.{specs.Field.close_bits_of, proofs.Fields.above_fields-close_bits}, xbar_match.specs.Switches.shape_at}
 use Rattle.{xbar_match.proofs.OneCrosspoint.no_more-lt, xbar_plan.specs.Tables.Tables}
 use Rattle.xbar_jobs.specs.{Closing.{leave_effects, value_after, operation_of, other_opens, path_opens}, Keeping.{IsCovered, IsEffect}, Office.office}
-use Rattle.xbar_jobs.specs.declared.{decision.Decision.Decision, effect.Effect.{Effect, TheVariants.{Close, Open, SetBit, ClearBit}}, leave.Leave.Leave}
+use Rattle.xbar_jobs.specs.declared.{decision.{Decision.Decision, Leave.Leave}, effect.Effect.{Effect, TheVariants.{Close, Open, SetBit, ClearBit}}}
 
 -- a close sets bits of its switch's ten fields, and a member's bit is one of the first forty
 effect_fits : (effect : Effect) → IsEffect effect → FitsWord (operation_of effect)

@@ -6,10 +6,10 @@ use Rattle.{turns.proofs.Lists.in_either, xbar_equip.specs.{Crosspoint.crosspoin
 use Rattle.xbar_equip.specs.declared.{conn.Conn.{Conn, TheVariants.{Llf, Tlf, Group}}, crosspoint.Crosspoint.Crosspoint, path.Path.Path}
 use Rattle.{xbar_plan.specs.Tables.Tables, xbar_match.{specs.Effects.IsCrosspoint, proofs.PathEffects.{crosspoint_line, crosspoint_line_junctor}}}
 use Rattle.xbar_match.proofs.PathEffects.{crosspoint_trunk_junctor, crosspoint_trunk, line_of, line_junctor_of, trunk_junctor_of, trunk_of}
-use Rattle.{xbar_office.specs.declared.{reply.End.End, trial.CallPaths.CallPaths}, xbar_jobs.specs.Closing.{called_closes, effect_word, effects, leave_effects}}
-use Rattle.xbar_jobs.specs.{Closing.{leaving, other_opens, path_closes, path_opens, refused, released, take_effects}, Keeping.{IsEffect, AreEffects, IsCovered}}
-use Rattle.xbar_jobs.specs.{Office.office, Standing.most_effects, declared.{decision.Decision.Decision, effect.Effect.Effect}}
-use Rattle.xbar_jobs.specs.declared.{effect.Effect.TheVariants.{Close, Open, SetBit, ClearBit}, leave.Leave.Leave, take.Take.Take}
+use Rattle.xbar_office.specs.declared.{reply.End.End, trial.CallPaths.CallPaths}
+use Rattle.xbar_jobs.specs.Closing.{called_closes, effect_word, effects, leave_effects, leaving, other_opens, path_closes, path_opens, refused, released}
+use Rattle.xbar_jobs.specs.{Closing.take_effects, Keeping.{IsEffect, AreEffects, IsCovered}, Office.office, Standing.most_effects}
+use Rattle.xbar_jobs.specs.declared.{decision.{Decision.Decision, Leave.Leave, Take.Take}, effect.Effect.{Effect, TheVariants.{Close, Open, SetBit, ClearBit}}}
 use Rattle.xbar_jobs.proofs.HeldWords.{group_under, line_junctor_under, line_switch_under, trunk_junctor_under, trunk_switch_under}
 
 -- a line, a trunk place, a path between the two, and a member of a group: they are in range, and their connectors are held

@@ -1,9 +1,9 @@
 -- each job's script tests only what is held by then, and what it decides is covered
 use Rattle.std.proofs.Common.{◌≡◌, ℕ, zero, suc, List, [], ◌∷◌, arith, Option, Some, None}
 use Rattle.{std.proofs.lemmas.Option.slice_get_within, turns.{specs.System.KeepsTo, proofs.Keeping.keeps_map}}
-use Rattle.{xbar_equip.specs.{Len.{Line, IsLine}, declared.conn.Conn.Conn}, xbar_plan.specs.{Lawful.IsLawful, Tables.{Tables, register_group}}}
-use Rattle.{xbar_plan.proofs.LawfulLookups.register_group-is, xbar_office.specs.{Legal.IsJob, Trunks.AreGroups, declared.aim.Aim.TheVariants.DialTone}}
-use Rattle.xbar_office.specs.declared.{job.Job.{Job, TheVariants.{Dial, Complete, Release}}, reply.End.TheVariants.LineBusy}
+use Rattle.{xbar_equip.specs.{Len.{Line, IsLine}, declared.conn.Conn.Conn}, xbar_plan.specs.{Lawful.IsLawful, Tables.{Tables, register_group, AreGroups}}}
+use Rattle.{xbar_plan.proofs.LawfulLookups.register_group-is, xbar_office.specs.{Legal.IsJob, declared.{aim.Aim.TheVariants.DialTone, job.Job.Job}}}
+use Rattle.xbar_office.specs.declared.{job.Job.TheVariants.{Dial, Complete, Release}, reply.End.TheVariants.LineBusy}
 use Rattle.xbar_jobs.specs.{Connecting.alone, Jobs.{dial_steps, script, serve_idle_line}, Keeping.IsCovered, Office.office, Tracing.{approach, channel_of}}
 use Rattle.xbar_jobs.specs.declared.party.Party.{Party}
 use Rattle.xbar_jobs.proofs.{CompleteKeeps.complete_keeps, ConnectKeeps.connect_keeps, HeldEffects.{IsTaking, IsWellCovered, refused_takes, taking_covered}}

@@ -9,7 +9,7 @@ use Rattle.xbar_match.{specs.{Shows.{AreInRange, ShowsPaths}, Switches.word_of},
 use Rattle.{xbar_match.proofs.PathEffects.{close_path-shows, with_path-adds}, xbar_office.specs.Trial.{called_leg, leg_path, matched, with_called}}
 use Rattle.{xbar_office.proofs.GoodTrials.channel_found, xbar_jobs.specs.{Closing.{effect_word, value_after, path_closes}, Office.office}}
 use Rattle.xbar_jobs.specs.{Sides.{Side, Sides, join, join_called, open_path, reached_after, side_after, test_junctors}, declared.effect.Effect.Effect}
-use Rattle.xbar_jobs.specs.declared.{party.{CallParties.CallParties, Party.Party}, trunk.{Reached.Reached, Trunk.Trunk}}
+use Rattle.xbar_jobs.specs.declared.{party.{CallParties.CallParties, Party.Party}, trunks.{Reached.Reached, Trunk.Trunk}}
 use Rattle.xbar_jobs.proofs.{TakenMembers.perform_all-path_closes, TestedJunctors.{junctors_after-index, junctors_run, length-junctors, length-junctors_after}}
 use Rattle.xbar_jobs.proofs.TestedParties.{AreTestedOn, TestedOn, closes_below, party_after-tested, lines_of_parties}
 

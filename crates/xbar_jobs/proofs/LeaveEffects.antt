@@ -8,7 +8,7 @@ use Rattle.xbar_plan.proofs.{LawfulPlans.member-numbers, MemberPlaces.{member_pl
 use Rattle.{xbar_match.specs.Switches.word_of, xbar_office.specs.{Release.without_other, Standing.{path_at, other_path}}}
 use Rattle.xbar_office.proofs.{DialJobs.single_register, ReleaseJobs.lawful-released, RemovedPaths.orderly-without}
 use Rattle.xbar_jobs.specs.{Closing.{path_opens, other_opens, leave_effects, leave_of, IsDue}, Office.{is_busy_at, GroupShows, ShowsOffice, office}}
-use Rattle.xbar_jobs.specs.declared.{effect.Effect.{Effect, TheVariants.ClearBit}, leave.Leave.Leave}
+use Rattle.xbar_jobs.specs.declared.{effect.Effect.{Effect, TheVariants.ClearBit}, decision.Leave.Leave}
 use Rattle.xbar_jobs.proofs.{BusyMembers.busy_of, ClearedBits.{bit-cleared, bit-uncleared, bit-past}}
 use Rattle.xbar_jobs.proofs.{FreedMembers.{busy_before, freed_after, other_stays, others_as_before}, OpenedPaths.{one_opened, other_opened}}
 use Rattle.xbar_jobs.proofs.TakenMembers.{Adds as LeadsTo, group_kept, member_shows, more_added as both_opened, due-append, perform_all-append}

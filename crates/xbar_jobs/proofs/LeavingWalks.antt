@@ -4,7 +4,7 @@ use Rattle.{std.specs.Prelude.⊤, turns.specs.Script.seize, attempts.proofs.Wal
 use Rattle.{xbar_equip.specs.{Conn.conn_eq, Dialled.code_of, declared.conn.Conn.TheVariants.Group}, xbar_plan.specs.Tables.{Tables, route_of}}
 use Rattle.xbar_jobs.specs.{Closing.{leave_effects, leaving, value_after}, Completing.{call, call_without}}
 use Rattle.xbar_jobs.specs.{Script.{WalkState, Script, Wanted, as_if_made, conn_word, walk_on_words}, Sides.party_after, declared.decision.Decision.Decision}
-use Rattle.xbar_jobs.{specs.declared.{leave.Leave.Leave, party.Party.Party}, proofs.WalksOnWords.{comes, goes_on, stops}}
+use Rattle.xbar_jobs.{specs.declared.{decision.Leave.Leave, party.Party.Party}, proofs.WalksOnWords.{comes, goes_on, stops}}
 
 module _ (plan : Tables) (calling : Party) (dialled : ℕ) (leave : Leave) where
   -- the call, by the words as they will be

@@ -12,7 +12,7 @@ use Rattle.xbar_jobs.specs.{Attempt.{Act, Attempt, Counted, Phase, fresh, step_o
 use Rattle.xbar_jobs.specs.{Keeping.AreEffects, Office.{office, office_over}, Script.Seen, Standing.{AreConns, Doing, HasReplyIn, IsAttempt, IsPhase, IsValid}}
 use Rattle.xbar_jobs.specs.{Standing.{attempt_at, reply_of, most_readings, most_seizings}, Tracing.ResumePointIsValid, Turning.{DoesAsOffice, IsAct, IsStep}}
 use Rattle.xbar_jobs.specs.declared.{decision.Decision.Decision, effect.Effect.{Effect, TheVariants.{Close, Open, SetBit, ClearBit}}}
-use Rattle.xbar_jobs.{specs.declared.walk_progress.WalkProgress.WalkProgress, proofs.{AttemptStands.{stands_after, stands_led}, CompletingRows.known_on}}
+use Rattle.xbar_jobs.{specs.declared.walk.WalkProgress.WalkProgress, proofs.{AttemptStands.{stands_after, stands_led}, CompletingRows.known_on}}
 use Rattle.xbar_jobs.proofs.{JobBounds.jobs_bounded, JobTurns.turn_does, OfficeSystem.office_is}
 use Rattle.attempts.specs.Validity as standing
 

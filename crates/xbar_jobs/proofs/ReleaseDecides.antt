@@ -6,7 +6,7 @@ use Rattle.xbar_plan.{specs.{Tables.{Tables, member_place}, Lawful.IsLawful, dec
 use Rattle.xbar_office.specs.{Done.Done, Release.{release, release_from as office_release_from, release_paths}, Standing.{path_of, path_at, other_path}}
 use Rattle.{xbar_office.{specs.declared.reply.End.TheVariants.NoCall, proofs.ReleaseJobs.named_at}, xbar_jobs.specs.Closing.{effects, leave_effects, leave_of}}
 use Rattle.xbar_jobs.specs.{Closing.{refused, released}, Office.{ShowsOffice, office}, Releasing.{release_from, release_member, release_steps, trace_other}}
-use Rattle.xbar_jobs.specs.{Tracing.{approach, trace}, declared.{decision.Decision.Decision, effect.Effect.Effect, leave.Leave.Leave}}
+use Rattle.xbar_jobs.specs.{Tracing.{approach, trace}, declared.{decision.{Decision.Decision, Leave.Leave}, effect.Effect.Effect}}
 use Rattle.xbar_jobs.proofs.{LeaveEffects.{IsLeave, left, leave_shows, leave_due}, TracedRuns.{trace_runs, trace_back_runs, traced_shown, traced_back_shown}}
 
 -- what a release comes to: a line that has no path has no call, and of another one its call is let go

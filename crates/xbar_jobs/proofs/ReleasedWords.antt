@@ -10,7 +10,7 @@ use Rattle.{xbar_switch.specs.Field.field_of, xbar_office.specs.{Release.without
 use Rattle.xbar_office.{specs.declared.reply.{Card.Card, End.TheVariants.{NoCall, Released}, Reply.Reply}, proofs.EndsOfJobs.left_in}
 use Rattle.xbar_jobs.specs.{Attempt.Attempt, Closing.{effects, leave_effects, leave_of, refused, released}, Jobs.script, Office.{ShowsOffice, office}}
 use Rattle.xbar_jobs.specs.{Opening.{IsFieldOf, OpensJust, ReleasesJust, call_crosspoints}, Releasing.release_steps, declared.decision.Decision.Decision}
-use Rattle.xbar_jobs.{specs.declared.{effect.Effect.Effect, leave.Leave.Leave}, proofs.CallCrosspoints.{IsOfCall, of_call, leave_words, open_all-others}}
+use Rattle.xbar_jobs.{specs.declared.{decision.Leave.Leave, effect.Effect.Effect}, proofs.CallCrosspoints.{IsOfCall, of_call, leave_words, open_all-others}}
 use Rattle.xbar_jobs.proofs.{FreedMembers.{busy_before, freed_after, other_stays, others_as_before}, LeaveEffects.{IsLeave, effects_show, effects_due}}
 use Rattle.xbar_jobs.proofs.{LeaveEffects.leave_is, OpenedPaths.open_all-elsewhere, ReleaseDecides.{ComesTo, HasNone, LetsGo, release_comes, released_effects}}
 

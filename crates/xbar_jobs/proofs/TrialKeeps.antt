@@ -8,11 +8,11 @@ use Rattle.{xbar_match.specs.Channels.{is_open_channel, match_words}, xbar_plan.
 use Rattle.xbar_plan.{specs.declared.group.Member.Member, proofs.LawfulPlans.{member-numbers, pair-frame, place_at-range}}
 use Rattle.xbar_office.specs.{Members.members_of, Trial.{called_links, end_of, faulty_or_chosen, links}, TwoTrials.{cards_of, second_decides}}
 use Rattle.xbar_office.specs.declared.{reply.Card.Card, trial.{CallPaths.CallPaths, TrialEnd.{TrialEnd, TheVariants.{Chosen, Faulty, NoChannel}}}}
-use Rattle.xbar_office.{specs.declared.two_trials.{Choice.Choice, Trials.Trials}, proofs.{GoodTrials.at_group, TakenMembers.second-has}}
+use Rattle.xbar_office.{specs.declared.trial.{Choice.Choice, Trials.Trials}, proofs.{GoodTrials.at_group, TakenMembers.second-has}}
 use Rattle.xbar_jobs.specs.{Closing.path_closes, Office.office, Sides.{Side, Sides, join, join_called, open_path, reach, reached_after, side_after}}
 use Rattle.xbar_jobs.specs.Sides.{test_called, test_junctors, test_place, test_second, test_side, test_sides}
 use Rattle.xbar_jobs.specs.Trials.{after_first_trial, first_trial_steps, next_clear, second_trial_at, second_trial_steps, trial_end, two_trials_steps}
-use Rattle.xbar_jobs.specs.{Trunks.{Trunks, trunks_of}, declared.{party.{CallParties.CallParties, Party.Party}, trunk.{Reached.Reached, Trunk.Trunk}}}
+use Rattle.xbar_jobs.specs.{Trunks.{Trunks, trunks_of}, declared.{party.{CallParties.CallParties, Party.Party}, trunks.{Reached.Reached, Trunk.Trunk}}}
 use Rattle.xbar_jobs.proofs.{HeldEffects.{IsHeldCall, IsHeldIfAny, IsHeldLine, IsHeldPath, IsHeldPlace, line_held, place_held}, Items.if_found}
 use Rattle.xbar_jobs.proofs.HeldWords.{keeps_then, line_junctor_under, trunk_switch_under}
 

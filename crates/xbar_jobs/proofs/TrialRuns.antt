@@ -6,11 +6,11 @@ use Rattle.{turns.proofs.Walks.run_bind, xbar_equip.specs.{Ten.TrunkPlace, Word.
 use Rattle.xbar_plan.{specs.{Tables.{Tables, member_at}, Lawful.IsLawful, declared.group.Member.Member}, proofs.LawfulPlans.{member-numbers, place_at-range}}
 use Rattle.{xbar_match.specs.Switches.word_of, xbar_office.specs.{Members.{members_of, is_idle_at, is_member_idle, next_idle}, Trial.{end_of, trial}}}
 use Rattle.xbar_office.specs.{TwoTrials.{cards_of, first_decides, second_decides, trial_at, two_trials}, declared.{reply.Card.Card, trial.Parties.Parties}}
-use Rattle.xbar_office.specs.declared.{trial.TrialEnd.{TrialEnd, TheVariants.{Chosen, Faulty, NoChannel}}, two_trials.Trials.Trials}
+use Rattle.xbar_office.specs.declared.trial.{TrialEnd.{TrialEnd, TheVariants.{Chosen, Faulty, NoChannel}}, Trials.Trials}
 use Rattle.{xbar_office.proofs.{GoodTrials.at_group, TakenMembers.second-has}, xbar_jobs.specs.{Office.{ShowsOffice, is_busy_at}, Sides.{Side, Sides, reach}}}
 use Rattle.xbar_jobs.specs.{Sides.{test_called, test_place, test_second, test_side, test_sides}, Trials.{after_first_trial, first_trial_steps, next_clear}}
 use Rattle.xbar_jobs.specs.{Trials.{second_trial_at, second_trial_steps, trial_end, two_trials_steps}, Trunks.{Trunks, is_bit_clear, trunks_of}}
-use Rattle.xbar_jobs.{specs.declared.{party.{CallParties.CallParties, Party.Party}, trunk.{Reached.Reached, Trunk.Trunk}}, proofs.JoinedSides.joined}
+use Rattle.xbar_jobs.{specs.declared.{party.{CallParties.CallParties, Party.Party}, trunks.{Reached.Reached, Trunk.Trunk}}, proofs.JoinedSides.joined}
 use Rattle.xbar_jobs.proofs.{JoinedSides.{reached_of, side_of, sides_of, trunk_of}, SameChoice.next_below-same, TestedParties.{AreTestedOn, lines_of_parties}}
 
 module _ (words : List ℕ) where

@@ -14,8 +14,8 @@ use Rattle.xbar_office.specs.declared.reply.Reply.{Reply}
 use Rattle.xbar_jobs.specs.Jobs.{first_conn}
 use Rattle.xbar_jobs.specs.declared.effect.Effect.{Effect}
 use Rattle.xbar_jobs.specs.declared.effect.Effect.TheVariants.{Close, Open, SetBit, ClearBit}
-use Rattle.xbar_jobs.specs.declared.step.Step.{Step}
-use Rattle.xbar_jobs.specs.declared.step.Step.TheVariants as step
+use Rattle.xbar_jobs.specs.declared.program.Step.{Step}
+use Rattle.xbar_jobs.specs.declared.program.Step.TheVariants as step
 
 -- an attempt at a job of the office
 abbrev pub Attempt : Type 0

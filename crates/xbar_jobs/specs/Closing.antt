@@ -11,15 +11,15 @@ use Rattle.xbar_office.specs.Replies.{plain_reply, trials_reply}
 use Rattle.xbar_office.specs.declared.aim.Aim.{Aim}
 use Rattle.xbar_office.specs.declared.reply.End.{End}
 use Rattle.xbar_office.specs.declared.reply.End.TheVariants.{Released}
-use Rattle.xbar_office.specs.declared.two_trials.Choice.{Choice}
-use Rattle.xbar_office.specs.declared.two_trials.Trials.{Trials}
+use Rattle.xbar_office.specs.declared.trial.Choice.{Choice}
+use Rattle.xbar_office.specs.declared.trial.Trials.{Trials}
 use Rattle.turns.specs.Operations.{applied}
 use Rattle.turns.specs.System.{fold_effects}
 use Rattle.turns.specs.declared.operation.Operation.{Operation}
 use Rattle.turns.specs.declared.operation.Operation.TheVariants.{Or, And}
 use Rattle.xbar_jobs.specs.declared.decision.Decision.{Decision}
-use Rattle.xbar_jobs.specs.declared.leave.Leave.{Leave}
-use Rattle.xbar_jobs.specs.declared.take.Take.{Take}
+use Rattle.xbar_jobs.specs.declared.decision.Leave.{Leave}
+use Rattle.xbar_jobs.specs.declared.decision.Take.{Take}
 use Rattle.xbar_jobs.specs.declared.effect.Effect.{Effect}
 use Rattle.xbar_jobs.specs.declared.effect.Effect.TheVariants.{Close, Open, SetBit, ClearBit}
 

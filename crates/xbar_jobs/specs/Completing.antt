@@ -15,7 +15,7 @@ use Rattle.xbar_jobs.specs.Script.{Script, as_if_made}
 use Rattle.xbar_jobs.specs.Sides.{party_after}
 use Rattle.xbar_jobs.specs.Tracing.{approach, channel_of, trace}
 use Rattle.xbar_jobs.specs.declared.decision.Decision.{Decision}
-use Rattle.xbar_jobs.specs.declared.leave.Leave.{Leave}
+use Rattle.xbar_jobs.specs.declared.decision.Leave.{Leave}
 use Rattle.xbar_jobs.specs.declared.party.Party.{Party}
 
 -- a line that has a path is passed over

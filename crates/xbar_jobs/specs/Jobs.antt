@@ -16,8 +16,8 @@ use Rattle.xbar_jobs.specs.Script.{Script}
 use Rattle.xbar_jobs.specs.Tracing.{approach, channel_of}
 use Rattle.xbar_jobs.specs.declared.decision.Decision.{Decision}
 use Rattle.xbar_jobs.specs.declared.party.Party.{Party}
-use Rattle.xbar_jobs.specs.declared.walk_progress.WalkProgress.{WalkProgress}
-use Rattle.xbar_jobs.specs.declared.walk_progress.WalkProgress.TheVariants.{Begun, Approached, Traced}
+use Rattle.xbar_jobs.specs.declared.walk.WalkProgress.{WalkProgress}
+use Rattle.xbar_jobs.specs.declared.walk.WalkProgress.TheVariants.{Begun, Approached, Traced}
 
 -- a line that has a path is busy; any other is joined to a register
 unfoldable pub serve_idle_line : Tables → Party → Option ℕ → Script Decision

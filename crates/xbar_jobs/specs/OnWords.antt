@@ -7,8 +7,8 @@ use Rattle.turns.specs.declared.answer.Answer.TheVariants.{Asked, Seized, Again,
 use Rattle.xbar_equip.specs.Word.{ConnWord, TurnWord, word_number}
 use Rattle.turns.specs.declared.operation.Operation.{Operation}
 use Rattle.turns.specs.declared.operation.Operation.TheVariants.{Load, Or, And, Add, CompareExchange}
-use Rattle.xbar_jobs.specs.declared.step.Step.{Step}
-use Rattle.xbar_jobs.specs.declared.step.Step.TheVariants.{Request, Seize, Withdraw, Test, Turn, Close, Open, Free, Finished}
+use Rattle.xbar_jobs.specs.declared.program.Step.{Step}
+use Rattle.xbar_jobs.specs.declared.program.Step.TheVariants.{Request, Seize, Withdraw, Test, Turn, Close, Open, Free, Finished}
 
 -- the word that a step is made on
 abbrev pub step_word : Step → ℕ

@@ -13,8 +13,8 @@ use Rattle.xbar_jobs.specs.Script.{Script, test}
 use Rattle.xbar_jobs.specs.declared.effect.Effect.{Effect}
 use Rattle.xbar_jobs.specs.declared.party.CallParties.{CallParties}
 use Rattle.xbar_jobs.specs.declared.party.Party.{Party}
-use Rattle.xbar_jobs.specs.declared.trunk.Reached.{Reached}
-use Rattle.xbar_jobs.specs.declared.trunk.Trunk.{Trunk}
+use Rattle.xbar_jobs.specs.declared.trunks.Reached.{Reached}
+use Rattle.xbar_jobs.specs.declared.trunks.Trunk.{Trunk}
 
 -- one side of a call: the party, and the words of its frame's ten line junctor switches
 pub record Side : Type 0 where

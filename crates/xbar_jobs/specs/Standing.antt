@@ -21,8 +21,8 @@ use Rattle.xbar_jobs.specs.Others.{SeizesOthers, others_in}
 use Rattle.xbar_jobs.specs.Tracing.{ResumePointIsValid}
 use Rattle.xbar_jobs.specs.Turning.{IsStep}
 use Rattle.xbar_jobs.specs.declared.decision.Decision.{Decision}
-use Rattle.xbar_jobs.specs.declared.step.Step.{Step}
-use Rattle.xbar_jobs.specs.declared.walk_progress.WalkProgress.{WalkProgress}
+use Rattle.xbar_jobs.specs.declared.program.Step.{Step}
+use Rattle.xbar_jobs.specs.declared.walk.WalkProgress.{WalkProgress}
 
 -- the most words that an attempt ever reads
 abbrev pub most_readings : ℕ

@@ -10,8 +10,8 @@ use Rattle.xbar_match.specs.Traces.{field_at_place, place_at_field}
 use Rattle.turns.specs.Script.{Ends, ◌>>=◌, ◌>>◌, seize}
 use Rattle.xbar_jobs.specs.Script.{Script, Seen, test, walk}
 use Rattle.xbar_jobs.specs.declared.party.Party.{Party}
-use Rattle.xbar_jobs.specs.declared.walk_progress.WalkProgress.{WalkProgress}
-use Rattle.xbar_jobs.specs.declared.walk_progress.WalkProgress.TheVariants.{Begun, Approached, Traced}
+use Rattle.xbar_jobs.specs.declared.walk.WalkProgress.{WalkProgress}
+use Rattle.xbar_jobs.specs.declared.walk.WalkProgress.TheVariants.{Begun, Approached, Traced}
 
 -- approach a line: seize its frame and test its line switch
 unfoldable pub approach : Line → Script Party

@@ -8,13 +8,13 @@ use Rattle.xbar_office.specs.TwoTrials.{cards_of, first_decides, second_decides}
 use Rattle.xbar_office.specs.declared.reply.Card.{Card}
 use Rattle.xbar_office.specs.declared.trial.TrialEnd.{TrialEnd}
 use Rattle.xbar_office.specs.declared.trial.TrialEnd.TheVariants.{Chosen, Faulty, NoChannel}
-use Rattle.xbar_office.specs.declared.two_trials.Trials.{Trials}
+use Rattle.xbar_office.specs.declared.trial.Trials.{Trials}
 use Rattle.turns.specs.Script.{Ends, ◌>>=◌}
 use Rattle.xbar_jobs.specs.Script.{Script}
 use Rattle.xbar_jobs.specs.Sides.{Sides, join, reach, test_sides}
 use Rattle.xbar_jobs.specs.Trunks.{Trunks, is_bit_clear}
 use Rattle.xbar_jobs.specs.declared.party.CallParties.{CallParties}
-use Rattle.xbar_jobs.specs.declared.trunk.Trunk.{Trunk}
+use Rattle.xbar_jobs.specs.declared.trunks.Trunk.{Trunk}
 
 -- how a trial on a member ends, by the words of its trunk switches and of the parties' line
 -- junctor switches

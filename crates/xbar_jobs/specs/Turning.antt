@@ -10,8 +10,8 @@ use Rattle.turns.specs.declared.act.Act.TheVariants as act_is
 use Rattle.xbar_jobs.specs.Attempt.{Act, Attempt}
 use Rattle.xbar_jobs.specs.Keeping.{IsEffect}
 use Rattle.xbar_jobs.specs.Office.{ShowsOffice, office}
-use Rattle.xbar_jobs.specs.declared.step.Step.{Step}
-use Rattle.xbar_jobs.specs.declared.step.Step.TheVariants.{Request, Seize, Withdraw, Test, Turn, Close, Open, Free, Finished}
+use Rattle.xbar_jobs.specs.declared.program.Step.{Step}
+use Rattle.xbar_jobs.specs.declared.program.Step.TheVariants.{Request, Seize, Withdraw, Test, Turn, Close, Open, Free, Finished}
 
 -- on words that show these paths, the attempt does what the one-marker office does: its reply is
 -- that office's, and the effects that it has left lead to words that show that office's paths;

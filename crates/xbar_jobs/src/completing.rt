@@ -1,24 +1,21 @@
 //! The walk of a completing job.
 
 ghost use Rattle.std.specs.Prelude.{◌≡◌, ◌<◌, IfSome, []};
-ghost use Rattle.xbar_office.specs.Trunks.{AreGroups};
-ghost use Rattle.xbar_plan.specs.Tables.{lines_of, route_of};
+ghost use Rattle.xbar_plan.specs.Tables.{AreGroups, lines_of, route_of};
 ghost use Rattle.xbar_jobs.specs.Completing.{call as call_script, call_number as call_number_script, call_without as call_without_script, complete_steps, hunt as hunt_script, register_at as register_at_of};
 ghost use Rattle.xbar_jobs.specs.Keeping.{AreEffects};
 ghost use Rattle.xbar_jobs.specs.Script.{walk_on_words};
 ghost use Rattle.xbar_jobs.specs.Tracing.{ResumePointIsValid};
 ghost use Rattle.xbar_equip.specs.Dialled.{code_of};
 
-use crate::connecting::connect;
-use crate::decision::Decision;
-use crate::effect::Effect;
-use crate::effects::Effects;
-use crate::leave::Leave;
+use crate::decision::{Decision, Leave};
+use crate::effect::{Effect, Effects};
+use crate::offices::{Seen, Wanted};
 use crate::party::{CallParties, Party};
 use crate::seen::require_held;
-use crate::sizes::{Seen, Wanted};
 use crate::tracing::approach;
-use crate::walk_progress::WalkProgress;
+use crate::trials::connect;
+use crate::walk::WalkProgress;
 use xbar_equip::{Conn, Dialled, DirNo, Len, Path};
 use xbar_office::{Aim, End, leads_inside};
 use xbar_plan::{MemberPlace, Plan};
@@ -97,8 +94,6 @@ fn call(
         (call_script plan.now calling.now dialled (route_of plan.now (code_of dialled)))
         seen.old words.old }
 {
-    // Called only for its contract.
-    xbar_plan::laws::codes_lead_to_trunks();
     let Some(groups) = plan.route(dialled.code()) else {
         return Ok(Decision::refused(End::VacantCode));
     };
@@ -140,8 +135,6 @@ fn register_at(plan: &Plan, own: &Path) -> Option<MemberPlace>
     ensures register { result ≡ register_at_of plan.now own.now }
     ensures range { IfSome result (λ found. (found.group < 16) × (found.index < 40)) }
 {
-    // Called only for its contract.
-    xbar_plan::laws::member_places_are_in_range();
     let found = plan.member_of(own.place)?;
     if found.group == plan.register_group() {
         Some(found)

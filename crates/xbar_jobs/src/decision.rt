@@ -1,9 +1,16 @@
-ghost use Rattle.std.specs.Prelude.{◌≡◌, ◌≤◌, length, option_map};
+//! What a job decides before its turn, and the effects that carry it out.
 
-use crate::effects::Effects;
-use crate::leave::Leave;
-use crate::take::Take;
-use xbar_office::{Aim, Choice, End, Reply, Trials};
+ghost use Rattle.std.specs.Prelude.{◌≡◌, ◌≤◌, length, option_map, ◌<◌, ◌+◌, ◌^◌, IfSome, drop, slice_get, ◌++◌};
+ghost use Rattle.xbar_jobs.specs.Closing.{effects as effects_of};
+ghost use Rattle.xbar_jobs.specs.Keeping.{AreEffects};
+ghost use Rattle.xbar_jobs.specs.Standing.{most_effects};
+ghost use Rattle.arrayvec.specs.ArrayVec.{array_vec_len};
+
+use crate::effect::{Effect, Effects, OfficeEffect, close_path, open_path};
+use std::marker::Model;
+use xbar_equip::Path;
+use xbar_office::{Aim, CallPaths, Choice, End, Reply, Trials};
+use xbar_plan::MemberPlace;
 
 /// What a job decides before its turn: its reply, what it lets go, and what it takes.
 #[derive(Debug, Drop)]
@@ -86,5 +93,148 @@ impl Decision {
             index: choice.index,
             paths: choice.paths,
         })
+    }
+}
+
+/// A decision with the list of its effects.
+#[derive(Debug, Drop)]
+pub struct Decided {
+    decision: Decision,
+    effects: Effects,
+}
+
+impl Model for Decided {
+    ghost use Rattle.std.specs.Prelude.{◌≡◌};
+    ghost use Rattle.xbar_jobs.specs.Closing.{effects as effects_of};
+    ghost use Rattle.xbar_jobs.specs.Keeping.{AreEffects};
+    ghost use Rattle.xbar_jobs.specs.declared.decision.Decision.{Decision};
+
+    ghost Value = { Decision };
+
+    ghost view = { λ a. a.decision };
+
+    ghost invariant = { λ a. (a.effects.items ≡ effects_of a.decision)
+        × AreEffects (effects_of a.decision) };
+}
+
+impl Decided {
+    pub fn new(decision: Decision) -> Self
+        requires effects { AreEffects (effects_of decision) }
+        requires few { length (effects_of decision) ≤ most_effects }
+        ensures { result ≡ decision }
+    {
+        let effects = decision.effects();
+        Decided { decision, effects }
+    }
+
+    pub fn reply(&self) -> &Reply
+        ensures { result.now ≡ self.now.reply }
+    {
+        &self.decision.reply
+    }
+
+    /// The effect at index `place`, or None past the last one.
+    pub fn effect(&self, place: usize) -> Option<OfficeEffect>
+        ensures effect { result ≡ slice_get (effects_of self.now) place }
+        ensures more { IfSome result (λ effect. place + 1 < 2 ^ 64) }
+    {
+        let effects = self.effects.as_slice();
+        if place < effects.len() {
+            Some(OfficeEffect::new(effects[place]))
+        } else {
+            None
+        }
+    }
+
+    /// The effects from index `place` on. Empty past the last one.
+    pub fn effects_from(&self, place: usize) -> &[Effect]
+        ensures { result.now ≡ drop place (effects_of self.now) }
+    {
+        let effects = self.effects.as_slice();
+        if place <= effects.len() {
+            &effects[place..]
+        } else {
+            &[]
+        }
+    }
+
+    /// Does nothing. Called for its contract, that each effect is one of the office's.
+    pub fn is_of_the_office(&self)
+        ensures { AreEffects (effects_of self.now) }
+    {
+        let _ = &self.decision;
+    }
+}
+
+/// A member of a trunk group that a job takes, with the paths that lead to it.
+#[derive(Clone, Copy, Debug)]
+pub struct Take {
+    pub group: u8,
+    pub index: u8,
+    pub paths: CallPaths,
+}
+
+impl Take {
+    ghost use Rattle.xbar_jobs.specs.Closing.{take_effects};
+
+    /// Adds its effects: the closes of its paths, then the setting of the member's bit.
+    pub fn add_effects(&self, effects: &mut Effects)
+        requires { array_vec_len effects.old + length (take_effects self.now) ≤ 14 }
+        ensures { effects.new.items ≡ effects.old.items ++ take_effects self.now }
+    {
+        close_path(effects, &self.paths.calling);
+        if let Some(called) = &self.paths.called {
+            close_path(effects, called);
+        }
+        effects.push(Effect::SetBit {
+            group: self.group,
+            index: self.index,
+        });
+    }
+}
+
+/// A member of a trunk group that a job lets go, with the paths that lead to it.
+#[derive(Clone, Copy, Debug)]
+pub struct Leave {
+    pub group: u8,
+    pub index: u8,
+    pub own: Path,
+    /// The other party's path, if the member is a pair.
+    pub other: Option<Path>,
+}
+
+impl Leave {
+    ghost use Rattle.xbar_jobs.specs.Closing.{leave_effects, leave_of};
+    ghost use Rattle.xbar_jobs.specs.Keeping.{AreEffects};
+
+    /// The member `found` at the end of the own path, with the paths that lead to it.
+    pub fn of(own: &Path, other: &Option<Path>, found: &MemberPlace) -> Self
+        ensures { result ≡ leave_of own.now other.now found.now }
+    {
+        Leave {
+            group: found.group,
+            index: found.index,
+            own: *own,
+            other: *other,
+        }
+    }
+
+    /// Adds its effects: the opens of its paths, then the clearing of the member's bit.
+    pub fn add_effects(&self, effects: &mut Effects)
+        requires { array_vec_len effects.old + length (leave_effects self.now) ≤ 14 }
+        ensures effects { effects.new.items ≡ effects.old.items ++ leave_effects self.now }
+        ensures len { array_vec_len effects.new
+            ≡ array_vec_len effects.old + length (leave_effects self.now) }
+        ensures range { self.now.group < 16 → self.now.index < 40
+            → AreEffects (leave_effects self.now) }
+    {
+        open_path(effects, &self.own);
+        if let Some(other) = &self.other {
+            open_path(effects, other);
+        }
+        effects.push(Effect::ClearBit {
+            group: self.group,
+            index: self.index,
+        });
     }
 }

@@ -5,11 +5,11 @@ ghost use Rattle.xbar_jobs.specs.Jobs.{dial_steps};
 ghost use Rattle.xbar_jobs.specs.Script.{walk_on_words};
 ghost use Rattle.xbar_jobs.specs.Tracing.{ResumePointIsValid};
 
-use crate::connecting::connect;
 use crate::decision::Decision;
+use crate::offices::{Seen, Wanted};
 use crate::party::CallParties;
-use crate::sizes::{Seen, Wanted};
-use crate::walk_progress::WalkProgress;
+use crate::trials::connect;
+use crate::walk::WalkProgress;
 use xbar_equip::Len;
 use xbar_office::{Aim, End};
 use xbar_plan::Plan;
@@ -34,8 +34,6 @@ pub fn dial(
     if calling.channel().is_some() {
         return Ok(Decision::refused(End::LineBusy));
     }
-    // Called only for its contract.
-    xbar_plan::laws::one_group_has_registers();
     let parties = CallParties::alone(&calling);
     let groups = [plan.register_group()];
     connect(plan, seen, words, &[], Aim::DialTone, &parties, &groups)

@@ -1,14 +1,26 @@
-use crate::decided::Decided;
-use crate::office_effect::OfficeEffect;
-use crate::sizes::{HELD, READINGS, Seen, Wanted};
-use crate::walk::{first_conn, next_in_row, walk};
-use crate::walk_progress::WalkProgress;
+//! The office's jobs as scripts, and the sizes of their attempts.
+
+use crate::decision::Decided;
+use crate::effect::OfficeEffect;
+use crate::walk::{WalkProgress, first_conn, next_in_row, walk};
 use attempts::{AttemptOf, OnWords, Scripts};
 use turns::laws::Family;
 use turns::{Clock, LockSharing, Operation};
 use xbar_equip::{Conn, WORD_COUNT, conn_number, turn_word};
 use xbar_office::{Job, Reply};
 use xbar_plan::Plan;
+
+/// What a walk needs next: a connector to seize, or a word to test.
+pub type Wanted = turns::Wanted<Conn, usize>;
+
+/// The most words that an attempt reads.
+pub const READINGS: usize = 42;
+
+/// The most seizings of a script, counting also those of connectors that are held already.
+pub const HELD: usize = 19;
+
+/// The connectors that an attempt holds and the words that it has read.
+pub type Seen = attempts::Seen<Conn, READINGS, HELD>;
 
 /// The family of offices as systems of jobs over shared words: one for each plan.
 pub struct Offices;

@@ -1,8 +1,7 @@
 ghost use Rattle.std.specs.Prelude.{◌≡◌, ◌<◌, IfSome};
 ghost use Rattle.xbar_jobs.specs.Keeping.{AreEffects};
 
-use crate::effect::Effect;
-use crate::effects::made;
+use crate::effect::{Effect, made};
 use xbar_equip::{Len, line_switch};
 use xbar_match::find_line;
 

@@ -12,16 +12,15 @@ ghost use Rattle.xbar_jobs.specs.Office.{office_over};
 ghost use Rattle.xbar_jobs.specs.Standing.{IsAttempt, IsNextStep, IsValid, attempt_at, most_readings, most_seizings, reply_of};
 ghost use Rattle.xbar_jobs.specs.Tracing.{ResumePointIsValid};
 ghost use Rattle.xbar_jobs.specs.Turning.{IsAct, IsStep};
+ghost use Rattle.xbar_equip.specs.Word.{word_count};
+ghost use Rattle.xbar_jobs.specs.OnWords.{step_word};
 
-use crate::effect::Effect;
-use crate::office_effect::OfficeEffect;
-use crate::offices::{OfficeAttempt, Offices};
-use crate::sizes::{HELD, READINGS};
-use crate::step::Step;
+use crate::effect::{Effect, OfficeEffect};
+use crate::offices::{HELD, OfficeAttempt, Offices, READINGS};
 use attempts::{apply, begin, is_done, next, restart, run, step};
 use std::marker::Model;
 use turns::{Answer, Phase};
-use xbar_equip::{Conn, WordNo};
+use xbar_equip::{Conn, WordNo, conn_word, turn_word};
 use xbar_office::laws::job_is_in_range;
 use xbar_office::{Job, Reply};
 use xbar_plan::Plan;
@@ -319,5 +318,44 @@ impl Program {
             → IsValid plan self.new.attempt }
     {
         restart::<Offices, READINGS, HELD>(&mut self.attempt);
+    }
+}
+
+/// An atomic step: one operation on one word.
+#[derive(Clone, Copy, Debug, PartialEq, Eq)]
+pub enum Step {
+    /// Sets the marker's request bit in the connector's word.
+    Request(Conn),
+    /// Turns the marker's request into its hold, if the connector's word is still this value.
+    Seize(Conn, u64),
+    /// Clears the marker's request bit.
+    Withdraw(Conn),
+    /// Reads the word.
+    Test(WordNo),
+    /// Adds 1 to the turn word.
+    Turn,
+    /// Sets these bits in the word.
+    Close(WordNo, u64),
+    /// Keeps only these bits in the word.
+    Open(WordNo, u64),
+    /// Clears the holder in the connector's word.
+    Free(Conn),
+    /// No step: the job is done, and nothing is held.
+    Finished,
+}
+
+impl Step {
+    /// The word of the step. That of `Finished` is the turn word, which stays as it is.
+    pub fn word(&self) -> WordNo
+        requires { IsStep self.now }
+        ensures word { result ≡ step_word self.now }
+        ensures range { step_word self.now < word_count }
+    {
+        match self {
+            Step::Request(conn) | Step::Seize(conn, _) | Step::Withdraw(conn) | Step::Free(conn) =>
+                conn_word(*conn),
+            Step::Test(word) | Step::Close(word, _) | Step::Open(word, _) => *word,
+            Step::Turn | Step::Finished => turn_word(),
+        }
     }
 }

@@ -5,12 +5,11 @@ ghost use Rattle.xbar_jobs.specs.Releasing.{release_from as release_from_script,
 ghost use Rattle.xbar_jobs.specs.Script.{walk_on_words};
 ghost use Rattle.xbar_jobs.specs.Tracing.{ResumePointIsValid};
 
-use crate::decision::Decision;
-use crate::leave::Leave;
+use crate::decision::{Decision, Leave};
+use crate::offices::{Seen, Wanted};
 use crate::seen::require_held;
-use crate::sizes::{Seen, Wanted};
 use crate::tracing::trace_back;
-use crate::walk_progress::WalkProgress;
+use crate::walk::WalkProgress;
 use xbar_equip::{Conn, Len, Path, Ten};
 use xbar_office::End;
 use xbar_plan::Plan;
@@ -49,8 +48,6 @@ fn release_from(
     let Some(found) = plan.member_of(own.place) else {
         return Ok(Decision::refused(End::NoCall));
     };
-    // Called only for its contract.
-    xbar_plan::laws::member_places_are_in_range();
     require_held(seen, words, Conn::Group(found.group))?;
     let other = trace_other(seen, words, found.other)?;
     Ok(Decision::released(Leave::of(own, &other, &found)))

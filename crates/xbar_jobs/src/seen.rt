@@ -8,9 +8,8 @@ ghost use Rattle.xbar_jobs.specs.Keeping.{AreEffects};
 ghost use Rattle.xbar_jobs.specs.Script.{walk_on_words};
 ghost use Rattle.xbar_jobs.specs.declared.effect.Effect.{Effect};
 
-use crate::effect::Effect;
-use crate::effects::made as made_by;
-use crate::sizes::{Seen, Wanted};
+use crate::effect::{Effect, made as made_by};
+use crate::offices::{Seen, Wanted};
 use xbar_equip::{Conn, WordNo, conn_word};
 
 /// Makes sure that the connector is held. If it isn't, and can't be seized at once, the walk ends.

@@ -6,12 +6,11 @@ ghost use Rattle.xbar_jobs.specs.Keeping.{AreEffects};
 ghost use Rattle.xbar_jobs.specs.Script.{walk_on_words};
 ghost use Rattle.xbar_jobs.specs.Sides.{IsNextJunctor, join as join_of, join_called as join_called_of, junctors_after as junctors_after_of, open_path as open_path_of, test_called as test_called_script, test_junctors as junctors_script, test_side as test_side_script, test_sides as test_sides_script};
 
-use crate::effect::Effect;
-use crate::effects::{Effects, close_path, made as made_by};
+use crate::effect::{Effect, Effects, close_path, made as made_by};
+use crate::offices::{Seen, Wanted};
 use crate::party::{CallParties, Party};
 use crate::seen::value_of;
-use crate::sizes::{Seen, Wanted};
-use crate::trunk::{Reached, Trunk};
+use crate::trunks::{Reached, Trunk};
 use std::marker::Model;
 use xbar_equip::{Path, line_junctor};
 use xbar_match::match_channel;

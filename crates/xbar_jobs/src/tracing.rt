@@ -6,9 +6,9 @@ ghost use Rattle.xbar_jobs.specs.Script.{walk_on_words};
 ghost use Rattle.xbar_jobs.specs.Tracing.{approach as approach_script, trace as trace_script, trace_back as trace_back_script, trace_back_to as trace_back_to_script, trace_to as trace_to_script};
 
 use crate::effect::Effect;
+use crate::offices::{Seen, Wanted};
 use crate::party::Party;
 use crate::seen::{read, require_held, value_of};
-use crate::sizes::{Seen, Wanted};
 use xbar_equip::{
     Channel, Conn, Len, Path, Ten, line_junctor, line_switch, trunk_junctor, trunk_switch,
 };

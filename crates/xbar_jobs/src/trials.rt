@@ -1,17 +1,19 @@
-//! The walk of two trials on a trunk group.
+//! The walk that joins the parties of a job, by two trials on a trunk group.
 
 ghost use Rattle.std.specs.Prelude.{◌≡◌, ◌<◌, ◌≤◌, length};
+ghost use Rattle.xbar_plan.specs.Tables.{AreGroups};
+ghost use Rattle.xbar_jobs.specs.Connecting.{busy_end as busy_end_of, connect as connect_script};
 ghost use Rattle.xbar_jobs.specs.Keeping.{AreEffects};
 ghost use Rattle.xbar_jobs.specs.Script.{walk_on_words};
 ghost use Rattle.xbar_jobs.specs.Trials.{after_first_trial as after_first_script, first_trial_steps, second_trial_at as second_trial_at_script, second_trial_steps, trial_end as trial_end_of, two_trials_steps};
 
+use crate::decision::Decision;
 use crate::effect::Effect;
+use crate::offices::{Seen, Wanted};
 use crate::party::CallParties;
 use crate::sides::Sides;
-use crate::sizes::{Seen, Wanted};
-use crate::trunk::{Reached, Trunk, reach};
-use crate::trunks::{Trunks, next_clear};
-use xbar_office::{Card, Cards, TrialEnd, Trials};
+use crate::trunks::{Reached, Trunk, Trunks, find_trunk, next_clear, reach, trunks_of};
+use xbar_office::{Aim, Card, Cards, End, TrialEnd, Trials};
 use xbar_plan::{Member, Plan};
 
 /// How a trial on a member ends, by the words of its trunk switches and of the line junctor
@@ -160,4 +162,40 @@ pub fn two_trials(
         first,
         &trunks.members[first],
     )
+}
+
+/// The end of a job for which no group has an idle member.
+fn busy_end(aim: Aim) -> End
+    ensures { result ≡ busy_end_of aim }
+{
+    match aim {
+        Aim::DialTone => End::RegistersBusy,
+        Aim::Connected => End::TrunksBusy,
+    }
+}
+
+/// Joins the parties by a member of the first of these groups that has an idle one.
+#[tactic(auto, using(attempts::proofs::WalksOnWords::live_bind, attempts::proofs::WalksOnWords::live_end), unfolding(crate::specs::Connecting::connect, crate::specs::Connecting::try_trunk))]
+pub fn connect(
+    plan: &Plan,
+    seen: &mut Seen,
+    words: &mut [u64],
+    made: &[Effect],
+    aim: Aim,
+    parties: &CallParties,
+    groups: &[u8],
+) -> Result<Decision, Wanted>
+    requires made { AreEffects made.now }
+    requires groups { AreGroups plan.now groups.now }
+    ensures { record { found = result; state = seen.new; words = words.new }
+        ≡ walk_on_words made.now
+        (connect_script plan.now aim parties.now groups.now) seen.old words.old }
+{
+    let Some(idle) = find_trunk(plan, seen, words, made, groups)? else {
+        return Ok(Decision::refused(busy_end(aim)));
+    };
+    let trunks = trunks_of(plan, idle.group, idle.word);
+    let first = usize::from(idle.first);
+    let trials = two_trials(plan, seen, words, made, parties, &trunks, first)?;
+    Ok(Decision::tried(aim, idle.group, trials))
 }

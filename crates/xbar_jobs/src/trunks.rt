@@ -1,17 +1,18 @@
-//! Trunk groups, as a marker reads them from their words.
+//! Trunk groups and their members, as a marker reads them from words.
 
 ghost use Rattle.std.specs.Prelude.{◌≡◌, ◌<◌, ◌≤◌, IfOk, IfSome, length};
 ghost use Rattle.xbar_equip.specs.First.{first_below, next_below};
-ghost use Rattle.xbar_office.specs.Trunks.{AreGroups};
+ghost use Rattle.xbar_plan.specs.Tables.{AreGroups};
 ghost use Rattle.xbar_jobs.specs.Keeping.{AreEffects};
 ghost use Rattle.xbar_jobs.specs.Script.{walk_on_words};
 ghost use Rattle.xbar_jobs.specs.Trunks.{IsOfPlan, find_trunk as find_trunk_script, is_bit_clear as is_bit_clear_of, trunks_of as trunks_by};
+ghost use Rattle.xbar_jobs.specs.Sides.{reach as reach_script, test_place as test_place_script, test_second as test_second_script};
 
-use crate::effect::Effect;
+use crate::effect::{Effect, made as made_by};
+use crate::offices::{Seen, Wanted};
 use crate::seen::{require_held, value_of};
-use crate::sizes::{Seen, Wanted};
 use std::marker::Model;
-use xbar_equip::{Conn, group_word};
+use xbar_equip::{Conn, Ten, group_word, trunk_switch};
 use xbar_plan::{Member, Plan};
 
 /// A group that has an idle member: its number, its word's value, and its first idle member's
@@ -80,8 +81,6 @@ pub fn trunks_of(plan: &Plan, group: u8, word: u64) -> Trunks<'_>
     ensures trunks { result ≡ trunks_by plan.now group word }
     ensures size { length result.members ≤ 40 }
 {
-    // Called only for its contract.
-    xbar_plan::laws::groups_have_members();
     Trunks {
         members: plan.group(group).members(),
         word,
@@ -103,9 +102,8 @@ pub fn find_trunk(
         ≡ walk_on_words made.now (find_trunk_script plan.now groups.now) seen.old words.old }
     ensures range { IfOk result (λ found. IfSome found (λ idle. IsOfPlan plan.now idle)) }
 {
-    // Called only for their contracts.
+    // Called only for its contract.
     xbar_plan::laws::every_plan_is_lawful(plan);
-    xbar_plan::laws::groups_have_members();
     for group in groups {
         let group = *group;
         require_held(seen, words, Conn::Group(group))?;
@@ -120,4 +118,93 @@ pub fn find_trunk(
         }
     }
     Ok(None)
+}
+
+/// A trunk place, and the value of its switch word.
+#[derive(Clone, Copy)]
+pub struct Reached {
+    pub place: Ten,
+    pub word: u64,
+}
+
+impl Reached {
+    ghost use Rattle.xbar_jobs.specs.Sides.{reached_after};
+
+    /// The place with its word as effects will leave it.
+    pub fn after(&self, effects: &[Effect]) -> Self
+        requires { AreEffects effects.now }
+        ensures { result ≡ reached_after effects.now self.now }
+    {
+        let place = self.place;
+        let number = trunk_switch(place.frame(), place.switch());
+        Reached {
+            place,
+            word: made_by(effects, number, self.word),
+        }
+    }
+}
+
+/// A member of a trunk group that was reached: its place, or both places of a pair.
+#[derive(Clone, Copy)]
+pub struct Trunk {
+    pub first: Reached,
+    pub second: Option<Reached>,
+}
+
+/// Tests the trunk switch of a place.
+#[tactic(auto, using(attempts::proofs::WalksOnWords::live_bind, attempts::proofs::WalksOnWords::live_end), unfolding(crate::specs::Sides::test_place))]
+fn test_place(
+    seen: &mut Seen,
+    words: &[u64],
+    made: &[Effect],
+    place: Ten,
+) -> Result<Reached, Wanted>
+    requires made { AreEffects made.now }
+    ensures { record { found = result; state = seen.new; words = words.now }
+        ≡ walk_on_words made.now (test_place_script place) seen.old words.now }
+{
+    let word = value_of(
+        seen,
+        words,
+        made,
+        trunk_switch(place.frame(), place.switch()),
+    )?;
+    Ok(Reached { place, word })
+}
+
+/// Tests the trunk switch of the second place, if there is one.
+#[tactic(auto, using(attempts::proofs::WalksOnWords::live_bind, attempts::proofs::WalksOnWords::live_end), unfolding(crate::specs::Sides::test_second))]
+fn test_second(
+    seen: &mut Seen,
+    words: &[u64],
+    made: &[Effect],
+    place: Option<Ten>,
+) -> Result<Option<Reached>, Wanted>
+    requires made { AreEffects made.now }
+    ensures { record { found = result; state = seen.new; words = words.now }
+        ≡ walk_on_words made.now (test_second_script place) seen.old words.now }
+{
+    match place {
+        None => Ok(None),
+        Some(place) => Ok(Some(test_place(seen, words, made, place)?)),
+    }
+}
+
+/// Reaches a member: seizes its trunk link frame and tests the trunk switches of its places.
+#[tactic(auto, using(attempts::proofs::WalksOnWords::live_bind, attempts::proofs::WalksOnWords::live_end), unfolding(crate::specs::Sides::reach))]
+#[inline(always)]
+pub fn reach(
+    seen: &mut Seen,
+    words: &mut [u64],
+    made: &[Effect],
+    member: &Member,
+) -> Result<Trunk, Wanted>
+    requires made { AreEffects made.now }
+    ensures { record { found = result; state = seen.new; words = words.new }
+        ≡ walk_on_words made.now (reach_script member.now) seen.old words.old }
+{
+    require_held(seen, words, Conn::Tlf(member.first.frame()))?;
+    let first = test_place(seen, words, made, member.first)?;
+    let second = test_second(seen, words, made, member.second)?;
+    Ok(Trunk { first, second })
 }

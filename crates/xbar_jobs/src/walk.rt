@@ -1,23 +1,26 @@
-ghost use Rattle.std.specs.Prelude.{◌≡◌, Err, IfSome, IsTrue, None, []};
+//! Walks of jobs, and the points where they resume.
+
+ghost use Rattle.std.specs.Prelude.{◌≡◌, Err, IfSome, IsTrue, None, [], Ok};
 ghost use Rattle.turns.specs.Script.{value_read};
 ghost use Rattle.turns.specs.declared.wanted.Wanted.TheVariants.{Test};
 ghost use Rattle.attempts.specs.Points.{GoesOnTo};
 ghost use Rattle.xbar_equip.specs.Conn.{conn_eq};
+ghost use Rattle.xbar_plan.specs.Lawful.{IsLawful};
 ghost use Rattle.xbar_office.specs.Legal.{IsJob};
 ghost use Rattle.xbar_jobs.specs.Jobs.{TestsRows, script, first_conn as first_conn_of, job_line};
-ghost use Rattle.xbar_jobs.specs.Script.{walk_on_words, walk as walk_of};
+ghost use Rattle.xbar_jobs.specs.Script.{walk_on_words, walk as walk_of, walk};
 ghost use Rattle.xbar_jobs.specs.Sides.{IsNextJunctor};
-ghost use Rattle.xbar_jobs.specs.Tracing.{ResumePointIsValid};
+ghost use Rattle.xbar_jobs.specs.Tracing.{ResumePointIsValid, approach as approach_script, trace as trace_script};
 
 use crate::completing::complete;
-use crate::decided::Decided;
-use crate::decision::Decision;
+use crate::decision::{Decided, Decision};
 use crate::dialling::dial;
+use crate::offices::{Seen, Wanted};
+use crate::party::Party;
 use crate::releasing::release;
 use crate::sides::next_junctor;
-use crate::sizes::{Seen, Wanted};
-use crate::walk_progress::WalkProgress;
-use xbar_equip::{Conn, Len};
+use crate::tracing::{approach, trace};
+use xbar_equip::{Conn, Len, Path};
 use xbar_office::Job;
 use xbar_plan::Plan;
 
@@ -67,6 +70,7 @@ pub fn walk(
     job: &Job,
     point: &mut WalkProgress,
 ) -> Result<Decided, Wanted>
+    requires plan { IsLawful plan.now }
     requires job { IsJob job.now }
     requires valid_point { ResumePointIsValid (job_line job.now) point.old seen.old.seen }
     ensures walk { record { found = result; state = seen.new; words = words.new }
@@ -74,8 +78,7 @@ pub fn walk(
     ensures valid_point { ResumePointIsValid (job_line job.now) point.new seen.new.seen }
 {
     let decision = follow(plan, seen, words, job, point)?;
-    // Called only for their contracts.
-    xbar_plan::laws::every_plan_is_lawful(plan);
+    // Called only for its contract.
     seen.fits_words();
     Ok(Decided::new(decision))
 }
@@ -111,22 +114,95 @@ fn unread_after(seen: &Seen, word: usize) -> Option<usize>
 /// The ten line junctor switches of a frame are tested in order, whatever they show and whatever
 /// the plan is.
 pub fn next_in_row(
-    plan: &Plan,
+    _plan: &Plan,
     seen: &Seen,
     job: &Job,
     point: &WalkProgress,
     word: usize,
 ) -> Option<usize>
+    requires plan { IsLawful _plan.now }
     requires job { IsJob job.now }
     requires valid_point { ResumePointIsValid (job_line job.now) point.now seen.now.seen }
-    requires wants { walk_of seen.now.seen (script plan.now job.now) ≡ Err (Test word) }
-    ensures { IfSome result (GoesOnTo conn_eq seen.now.seen (script plan.now job.now) word) }
+    requires wants { walk_of seen.now.seen (script _plan.now job.now) ≡ Err (Test word) }
+    ensures { IfSome result (GoesOnTo conn_eq seen.now.seen (script _plan.now job.now) word) }
 {
-    // Called only for its contract.
-    xbar_plan::laws::every_plan_is_lawful(plan);
     if tests_rows(job, point) {
         unread_after(seen, word)
     } else {
         None
+    }
+}
+
+/// How far a job's walks have come. The next walk goes on from there.
+#[derive(Clone, Copy, Debug)]
+pub enum WalkProgress {
+    /// Nothing was found yet.
+    Begun,
+    /// The calling line's switch was read.
+    Approached { calling: Party },
+    /// Its own path was traced too. None if it has no path.
+    Traced { calling: Party, own: Option<Path> },
+}
+
+impl WalkProgress {
+    fn from_line(calling: &Party) -> Self
+        ensures { result ≡ WalkProgress.Approached calling.now }
+    {
+        WalkProgress::Approached { calling: *calling }
+    }
+
+    fn from_path(calling: &Party, own: &Option<Path>) -> Self
+        ensures { result ≡ WalkProgress.Traced calling.now own.now }
+    {
+        WalkProgress::Traced {
+            calling: *calling,
+            own: *own,
+        }
+    }
+
+    /// Approaches the calling line, unless an earlier walk has.
+    pub fn approach(
+        &mut self,
+        seen: &mut Seen,
+        words: &mut [u64],
+        line: Len,
+    ) -> Result<Party, Wanted>
+        requires { ResumePointIsValid line self.old seen.old.seen }
+        ensures walk { record { found = result; state = seen.new; words = words.new }
+            ≡ walk_on_words [] (approach_script line) seen.old words.old }
+        ensures found { walk seen.new.seen (approach_script line) ≡ result }
+        ensures valid_point { ResumePointIsValid line self.new seen.new.seen }
+    {
+        if let WalkProgress::Approached { calling } = *self {
+            return Ok(calling);
+        }
+        if let WalkProgress::Traced { calling, .. } = *self {
+            return Ok(calling);
+        }
+        let calling = approach(seen, words, &[], line)?;
+        *self = WalkProgress::from_line(&calling);
+        Ok(calling)
+    }
+
+    /// Traces the calling line's own path, unless an earlier walk has.
+    pub fn trace(
+        &mut self,
+        seen: &mut Seen,
+        words: &mut [u64],
+        line: Len,
+        calling: &Party,
+    ) -> Result<Option<Path>, Wanted>
+        requires valid_point { ResumePointIsValid line self.old seen.old.seen }
+        requires approached { walk seen.old.seen (approach_script line) ≡ Ok calling.now }
+        ensures walk { record { found = result; state = seen.new; words = words.new }
+            ≡ walk_on_words [] (trace_script calling.now) seen.old words.old }
+        ensures valid_point { ResumePointIsValid line self.new seen.new.seen }
+    {
+        if let WalkProgress::Traced { own, .. } = *self {
+            return Ok(own);
+        }
+        let own = trace(seen, words, calling)?;
+        *self = WalkProgress::from_path(calling, &own);
+        Ok(own)
     }
 }

@@ -1,8 +1,9 @@
 -- values told one by one, with commas between them
-use Rattle.std.proofs.Common.{◌≡◌, ℕ, zero, suc, ◌+◌, Bool, true, false, List, [], ◌∷◌, ◌++◌, ◌≤◌, append_assoc, append-nil, length, map, take, refl, sym, ◌∙◌}
-use Rattle.std.proofs.Common.{ap, subst, arith, ◌||◌, Some, codes, filter, slice_get, if◌then◌else◌, take_all}
+use Rattle.std.proofs.Common.{◌≡◌, ℕ, ◌+◌, Bool, true, false, List, [], ◌∷◌, ◌++◌, ◌≤◌, append_assoc, append-nil, length, map, take, refl, sym, ◌∙◌, ap, subst}
+use Rattle.std.proofs.Common.{arith, ◌||◌, Some, codes, filter, slice_get, if◌then◌else◌, take_all}
 use Rattle.std.{specs.List.range_with_len, proofs.lemmas.{Grind.common_steps, List.{map-append, take_more, Elements.filter-append}}}
 use Rattle.{std.proofs.lemmas.Option.{get_or_from_slice_get, slice_get_within}, xbar_equip.proofs.Logic.{or_true, or_false}, xbar_json.specs.Json.listed}
+use Rattle.xbar_step_text.proofs.Listed.{next_number}
 
 -- whether there are any values
 abbrev pub has_any : List (List ℕ) → Bool
@@ -78,19 +79,6 @@ module _ {A : Type 0} (passes : A → Bool) (of : A → List ℕ) (items : List 
 
     pub all_items : length items ≤ n → now ≡ first ++ listed (map of (filter passes items))
     all_items all = so_far.text_is ∙ ap (λ (told : List A). first ++ listed (map of (filter passes told))) (take_all n items all)
-
--- one number more
-range_more : (a n : ℕ) → range_with_len a (suc n) ≡ range_with_len a n ++ (a + n) ∷ []
-range_more a zero = ap (λ (k : ℕ). k ∷ []) (omega arith)
-range_more a (suc n) =
-    let next : a + 1 + n ≡ a + suc n = omega arith in
-    ap (λ (rest : List ℕ). a ∷ rest) (range_more (a + 1) n ∙ ap (λ (k : ℕ). range_with_len (a + 1) n ++ k ∷ []) next)
-
-pub next_number : (n : ℕ) → range_with_len 0 (n + 1) ≡ range_with_len 0 n ++ n ∷ []
-next_number n =
-    let more : n + 1 ≡ suc n = omega arith in
-    let same : 0 + n ≡ n = omega arith in
-    ap (range_with_len 0) more ∙ range_more 0 n ∙ ap (λ (k : ℕ). range_with_len 0 n ++ k ∷ []) same
 
 -- the values of the numbers below n that pass a test
 module _ (passes : ℕ → Bool) (of : ℕ → List ℕ) where

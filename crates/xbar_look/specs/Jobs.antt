@@ -11,7 +11,7 @@ use Rattle.xbar_office.specs.declared.reply.End.TheVariants.{DialTone, Connected
 use Rattle.xbar_office.specs.declared.reply.Reply.{Reply}
 use Rattle.xbar_jobs.specs.Attempt.{Attempt, next_step}
 use Rattle.xbar_jobs.specs.OnWords.{step_word}
-use Rattle.xbar_jobs.specs.declared.step.Step.{Step}
+use Rattle.xbar_jobs.specs.declared.program.Step.{Step}
 use Rattle.xbar_moves.specs.Exchange.{Marker, is_idle, on_job}
 use Rattle.xbar_core.specs.declared.work.Work.{Work}
 use Rattle.xbar_look.specs.declared.job_paths.JobPaths.{JobPaths}

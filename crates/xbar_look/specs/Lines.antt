@@ -6,7 +6,7 @@ use Rattle.xbar_equip.specs.Path.{path_text}
 use Rattle.xbar_equip.specs.declared.conn.Conn.{Conn}
 use Rattle.xbar_equip.specs.declared.path.Path.{Path}
 use Rattle.xbar_jobs.specs.Attempt.{effect_step, next_step}
-use Rattle.xbar_jobs.specs.declared.step.Step.{Step}
+use Rattle.xbar_jobs.specs.declared.program.Step.{Step}
 use Rattle.xbar_moves.specs.Exchange.{Marker}
 use Rattle.xbar_step_text.specs.Next.{next_words}
 use Rattle.xbar_step_text.specs.Places.{conn_name}

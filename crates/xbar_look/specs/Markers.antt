@@ -8,10 +8,10 @@ use Rattle.xbar_json.specs.Json.{array, quoted, value_or_null}
 use Rattle.xbar_json.specs.Office.{conn_object, job_object}
 use Rattle.xbar_jobs.specs.Attempt.{effect_step, next_step}
 use Rattle.xbar_jobs.specs.declared.effect.Effect.{Effect}
-use Rattle.xbar_jobs.specs.declared.step.Step.{Step}
+use Rattle.xbar_jobs.specs.declared.program.Step.{Step}
 use Rattle.xbar_moves.specs.Exchange.{Marker}
-use Rattle.xbar_moves.specs.declared.kind.Kind.{Kind}
-use Rattle.xbar_moves.specs.declared.kind.Kind.TheVariants as kind
+use Rattle.xbar_moves.specs.declared.kinds.Kind.{Kind}
+use Rattle.xbar_moves.specs.declared.kinds.Kind.TheVariants as kind
 use Rattle.xbar_step_text.specs.Next.{next_object}
 use Rattle.xbar_look.specs.Jobs.{UnderWay, closed_of, paths_of, under_way, value_under}
 

@@ -2,7 +2,7 @@
 use Rattle.std.proofs.Common.{◌≡◌, ◌∙◌, ℕ, ◌+◌, ◌*◌, ◌<◌, ◌^◌, List, [], Some, None, true, append-nil, length, length-append, sym, refl, ap, arith}
 use Rattle.{std.proofs.lemmas.List.Elements.{All-head, All-nil}, desks.specs.Parts.Begins}
 use Rattle.xbar_office.specs.declared.{job.Job.{Job, TheVariants.{Complete, Release}}, reply.Record.Record}
-use Rattle.xbar_moves.specs.{Exchange.is_idle, Kinds.takes, declared.kind.Kind.{Kind, TheVariants.Completing}}
+use Rattle.xbar_moves.specs.{Exchange.is_idle, Kinds.takes, declared.kinds.Kind.{Kind, TheVariants.Completing}}
 use Rattle.{xbar_fabric.specs.{Meetings.MarkerHasLearned, Views.{DeskView, FabricView, mine}}, xbar_markers.specs.Calls.{HasDialTone, is_connected}}
 use Rattle.xbar_markers.specs.{Notes.IsNoted, Shares.HasCompleted, Work.{HasDone, IsReady, WorkerHasWorked}, declared.call_records.CallRecords.CallRecords}
 use Rattle.xbar_markers.proofs.Works.{IsShort, done_worked, short_begins, worked_on}

@@ -4,7 +4,7 @@ use Rattle.std.proofs.Common.{◌≡◌, ℕ, zero, suc, ◌+◌, ◌<◌, List,
 use Rattle.std.proofs.Common.{get_or, sum_by, get_or-drop, get_or-take, length-drop, length-take, take-append-drop, OnOk, Some, Result, Ok, Err, option_map}
 use Rattle.std.proofs.Common.{slice_get, slice_set}
 use Rattle.std.proofs.lemmas.{List.{get_or-map, length-map, map-append, map-set, Elements.All-head, Sums.sum_by-append}, Option.slice_get-map}
-use Rattle.{fair_queue.specs.Tickets.{TicketView, with_fewer_parts}, xbar_moves.specs.declared.kind.Kind.{Kind, TheVariants.{Completing, Dial}}}
+use Rattle.{fair_queue.specs.Tickets.{TicketView, with_fewer_parts}, xbar_moves.specs.declared.kinds.Kind.{Kind, TheVariants.{Completing, Dial}}}
 use Rattle.{xbar_fabric.specs.Views.{DeskView, FabricView}, xbar_markers.specs.ThreadStates.{AreStatesOf, HaveServed, IsThreadState, IsThere, KeepShares}}
 use Rattle.xbar_markers.specs.{ThreadStates.{desk_at, desks_at, ThreadState}, Shares.{HasServed, HasStopped, IsFilled, IsShareOf, in_tasks, out_of, Queues}}
 use Rattle.xbar_markers.specs.{Shares.Share, DesksByKind.kinds_of, Work.AreShort, Calls.{HasDialTone, IsServed, records_of}, declared.call.Call.Call}

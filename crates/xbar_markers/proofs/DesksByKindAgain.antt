@@ -1,6 +1,6 @@
 -- desks that have worked are still idle desks by kind, as before
 use Rattle.std.proofs.Common.{◌≡◌, ℕ, zero, suc, true, List, [], ◌∷◌, All, map, length, ap, ◌∙◌, arith, refl, IfSome, slice_get}
-use Rattle.{xbar_office.specs.declared.reply.Record.Record, xbar_moves.specs.{Exchange.is_idle, declared.kind.Kind.Kind}}
+use Rattle.{xbar_office.specs.declared.reply.Record.Record, xbar_moves.specs.{Exchange.is_idle, declared.kinds.Kind.Kind}}
 use Rattle.xbar_fabric.specs.{Meetings.AreAllIdle, Views.{DeskView, FabricView, IsDeskOf}}
 use Rattle.xbar_markers.specs.{DesksByKind.AreDesksByKind, Work.{WorkerHasWorked, HaveWorked, IsReady}}
 

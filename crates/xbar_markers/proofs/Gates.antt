@@ -1,6 +1,6 @@
 -- gates and desks that are taken one after another, and gates of new desks
 use Rattle.std.proofs.Common.{◌≡◌, ℕ, zero, suc, ◌+◌, ◌<◌, List, [], ◌∷◌, arith, get_or, length, sym, ◌∙◌, subst}
-use Rattle.{xbar_moves.specs.declared.kind.Kind.Kind, xbar_fabric.specs.Views.{DeskView, FabricView, new_desks}}
+use Rattle.{xbar_moves.specs.declared.kinds.Kind.Kind, xbar_fabric.specs.Views.{DeskView, FabricView, new_desks}}
 use Rattle.xbar_markers.specs.Gates.{AreForDesks, AreForMarkers}
 
 -- each of the new desks is at the index of its marker

@@ -2,12 +2,13 @@
 use Rattle.std.proofs.Common.{◌≡◌, ◌≢◌, ℕ, ◌≤◌, ◌<◌, ◌^◌, Bool, false, true, Some, List, [], ◌∷◌, ◌++◌, append-nil, append_assoc, length, refl, sym, ◌∙◌, ap}
 use Rattle.std.proofs.Common.{subst, None, Option, if◌then◌else◌, is_some}
 use Rattle.{std.proofs.lemmas.Option.same_Some, turns.specs.{Attempt.{act, begin_with, turn_in}, Runs.is_finished, World.{Idle, Does}}}
-use Rattle.{xbar_office.specs.declared.{job.Job.Job, reply.Record.Record}, xbar_jobs.specs.Jobs.first_conn, xbar_moves.specs.Exchange.{Work, is_idle}}
-use Rattle.{xbar_moves.specs.{Moves.given_by, declared.event.Event.TheVariants.Finished}, xbar_fabric.specs.Advances.{MarkerHasAdvanced, MarkerHasGivenBack}}
-use Rattle.xbar_fabric.specs.{Advances.at_beginning, Histories.{job_at, turned_of}, Reports.{MarkerHasWorked, unreported}, Views.{DeskView, mine}}
+use Rattle.{xbar_office.specs.declared.{job.Job.Job, reply.Record.Record}, xbar_jobs.specs.Jobs.first_conn}
+use Rattle.xbar_moves.specs.{Exchange.{Work, is_idle}, Moves.given_by, declared.event.Event.TheVariants.Finished}
+use Rattle.xbar_fabric.specs.{Advances.{MarkerHasAdvanced, MarkerHasGivenBack, at_beginning}, Histories.{job_at, turned_of}}
+use Rattle.xbar_fabric.{specs.{Reports.{MarkerHasWorked, unreported}, Views.{DeskView, mine}}, proofs.Reporting.none_left}
 use Rattle.xbar_markers.specs.{Handing.{HasGiven, IsTakenOver}, Work.{HasDone, HasMadeSteps, IsDoing, IsDoneOr, reported_record}, declared.handing.Then.Then}
 use Rattle.xbar_markers.{specs.declared.handing.Then.TheVariants.GiveBack, proofs.{JobsInHand.{has_done, mine_at_end}, ToldRecords.told_end}}
-use Rattle.xbar_moves.specs.declared.given.Given.TheVariants as given
+use Rattle.xbar_moves.specs.declared.event.Given.TheVariants as given
 use Rattle.xbar_markers.specs.Work as work
 use Rattle.xbar_markers.specs.declared.handing.Handed.TheVariants as handed
 
@@ -30,10 +31,6 @@ goes_given false turned is = refl
 busy_given : (at : Work) → given_by at ≡ given.Given → is_idle at ≡ false
 busy_given Idle gives = absurd cc
 busy_given (Does number a) gives = goes_given (is_finished (act a)) (is_some (turn_in a.phase)) gives
-
-none_reported : (idle : Bool) (none : List Record) → none ≡ [] → (if idle then [] else none) ≡ []
-none_reported true none is = refl
-none_reported false none is = is
 
 module _ (number : ℕ) (job : Job) (start : DeskView) where
   -- the desk is at the job still, or has done it if the step reported a record
@@ -63,7 +60,7 @@ module _ (number : ℕ) (job : Job) (start : DeskView) where
       doing.mine_are ∙ ap (λ (idle : Bool). mine start ++ (if idle then [] else turned_of desk)) (sym (busy_given desk.work gives)) in
       let none : unreported after ≡ [] =
       ap (λ (at : Work). unreported (record after { work = at })) begins
-      ∙ none_reported (is_idle (Does number (begin_with (first_conn job) job))) [] refl in
+      ∙ none_left (is_idle (Does number (begin_with (first_conn job) job))) [] refl in
       record {
         same = same
             ∙ ap (λ (d : DeskView). record d { work = after.work; seen = after.seen }) doing.same

@@ -1,11 +1,12 @@
 -- a desk that does one job
 use Rattle.std.proofs.Common.{◌≡◌, ℕ, zero, suc, ◌+◌, ◌≤◌, ◌<◌, ◌^◌, Bool, false, true, arith, List, [], ◌∷◌, ◌++◌, append-nil, append_assoc, length, refl, sym}
 use Rattle.std.proofs.Common.{◌∙◌, ap, subst, None, Option, Some, if◌then◌else◌, option_map, option_to_list, unwrap_or}
-use Rattle.{std.proofs.lemmas.Option.same_Some, turns.specs.{Attempt.{begin_with, turn_in}, World.{Idle, Does}}, desks.specs.Parts.Begins}
-use Rattle.{desks.specs.Watching.watched_more, xbar_office.specs.declared.{job.Job.Job, reply.{Record.Record, Reply.Reply}}, xbar_jobs.specs.Jobs.first_conn}
+use Rattle.{std.proofs.lemmas.Option.same_Some, turns.specs.{Attempt.{begin_with, turn_in}, World.{Idle, Does}}, desks.specs.{Parts.Begins, Watching.watched_more}}
+use Rattle.{xbar_office.specs.declared.{job.Job.Job, reply.{Record.Record, Reply.Reply}}, xbar_jobs.specs.Jobs.first_conn}
 use Rattle.xbar_moves.specs.{Exchange.{Work, is_idle, on_job}, Moves.own_record, declared.event.Event.{Event, TheVariants.Finished}}
 use Rattle.xbar_fabric.specs.{Advances.{MarkerHasAdvanced, MarkerHasRun}, Histories.{job_at, turned_of}, Reports.{MarkerHasWorked, ended, unreported}}
-use Rattle.{xbar_fabric.specs.Views.{DeskView, FabricView, IsDeskOf, mine}, xbar_markers.specs.Work.{HasDone, HasMadeSteps, IsDoing}}
+use Rattle.xbar_fabric.{specs.Views.{DeskView, FabricView, IsDeskOf, mine}, proofs.Reporting.one_of_both}
+use Rattle.xbar_markers.specs.Work.{HasDone, HasMadeSteps, IsDoing}
 
 -- what the laws of reports say of an advance
 abbrev pub Reports : Type 0
@@ -22,11 +23,6 @@ abbrev pub ReportsJob : Type 0
 ReportsJob =
     (before after : DeskView) (r : Record) → MarkerHasAdvanced before after (Finished r)
     → turned_of after ≡ r ∷ []
-
--- a record is reported, or is still to be reported
-one_of_both : (idle : Bool) (l : List Record) → (if idle then l else []) ++ (if idle then [] else l) ≡ l
-one_of_both true l = append-nil l
-one_of_both false l = refl
 
 -- the steps of a run are steps
 pub run_made : (count : ℕ) (before after : DeskView) → MarkerHasRun count before after → HasMadeSteps count before after

@@ -1,7 +1,7 @@
 -- of which kinds the desks are that work on calls
 use Rattle.std.proofs.Common.{◌≡◌, ℕ, zero, suc, ◌+◌, ◌<◌, ◌≤◌, List, [], ◌∷◌, map, length, ap, ◌∙◌, arith, refl, replicate, slice_index_or}
 use native.Mathlib.Decide.{dec_lt}
-use Rattle.{xbar_moves.specs.declared.kind.Kind.{Kind, TheVariants.{Completing, Dial}}, xbar_fabric.specs.Views.DeskView}
+use Rattle.{xbar_moves.specs.declared.kinds.Kind.{Kind, TheVariants.{Completing, Dial}}, xbar_fabric.specs.Views.DeskView}
 use Rattle.xbar_markers.specs.DesksByKind.{kinds_of}
 
 abbrev kind_of : DeskView → Kind

@@ -10,8 +10,8 @@ use Rattle.std.proofs.option.Option.TheSendSync as option_sent
 use Rattle.std.proofs.result.Result.TheSendSync as result_sent
 use Rattle.std.specs.contracts.option.Option as option
 use Rattle.std.specs.contracts.result.Result as result
-use Rattle.xbar_moves.proofs.assign_fault.AssignFault.TheSendSync as fault_sent
-use Rattle.xbar_moves.specs.contracts.assign_fault.AssignFault as fault
+use Rattle.xbar_moves.proofs.kinds.AssignFault.TheSendSync as fault_sent
+use Rattle.xbar_moves.specs.contracts.kinds.AssignFault as fault
 use Rattle.xbar_fabric.specs.contracts.desk.Desk as desk
 use Rattle.xbar_office.proofs.reply.Record.TheSendSync as reply_sent
 use Rattle.xbar_office.specs.contracts.reply.Record as reply

@@ -1,7 +1,7 @@
 -- What a thread state becomes while its worker works, and what the threads returned, state by
 -- state.
 use Rattle.std.proofs.Common.{◌≡◌, ℕ, suc, ◌<◌, List, [], ◌∷◌, IfOk, Ok, Result, length, get_or, map, refl, sym, ap, ◌∙◌, subst, arith}
-use Rattle.{std.{specs.declared.alloc.AllocError.AllocError, proofs.lemmas.List.{get_or-map, length-map}}, xbar_moves.specs.declared.kind.Kind.Kind}
+use Rattle.{std.{specs.declared.alloc.AllocError.AllocError, proofs.lemmas.List.{get_or-map, length-map}}, xbar_moves.specs.declared.kinds.Kind.Kind}
 use Rattle.{xbar_fabric.specs.Views.{DeskView, FabricView}, xbar_markers.specs.ThreadStates.{HasWorkedOn, HaveWorkedOn, IsThreadState, KeepShares, KeepsShare}}
 use Rattle.xbar_markers.specs.{ThreadStates.{desk_at, ThreadState}, Shares.{HasServed, HasTickets, MayUse, Queues, Share}, Work.IsReady}
 

@@ -4,7 +4,7 @@ use Rattle.std.proofs.Common.{◌≡◌, ℕ, zero, suc, ◌+◌, ◌<◌, Bool,
 use Rattle.std.proofs.Common.{◌==◌, IfSome, if◌then◌else◌, slice_get}
 use Rattle.std.proofs.{Math.Dec.{eqb-suc-suc, eqb-suc-zero, eqb-zero-suc}, lemmas.List.Sums.{sum_by-append, sum_by-cons}}
 use Rattle.{turns.specs.{Among.IsIn, World.Idle}, fair_queue.specs.Items.SameItems, xbar_office.specs.declared.reply.Record.Record}
-use Rattle.{xbar_moves.specs.{Kinds.takes, declared.kind.Kind.Kind}, xbar_fabric.specs.Views.{DeskView, FabricView, new_desks, own}}
+use Rattle.{xbar_moves.specs.{Kinds.takes, declared.kinds.Kind.Kind}, xbar_fabric.specs.Views.{DeskView, FabricView, new_desks, own}}
 use Rattle.xbar_markers.specs.Work.{WorkerHasWorked, HaveWorked}
 
 -- whether n is k or more

@@ -3,7 +3,7 @@ use Rattle.std.proofs.Common.{◌≡◌, ℕ, zero, suc, ◌<◌, ◌≤◌, ◌
 use Rattle.std.proofs.Common.{Contains, IfSome, Option, Some, None, slice_get}
 use Rattle.{std.{proofs.lemmas.Option.slice_get-get_or, specs.{List.Sorted.IsNonDecreasingBy, Prelude.⊤}}, desks.specs.Parts.Begins}
 use Rattle.{fair_queue.specs.Items.SameItems, xbar_plan.specs.Tables.Tables, xbar_office.specs.{Legal.{IsLegal, after}, declared.reply.Record.Record}}
-use Rattle.{xbar_jobs.specs.Office.ShowsOffice, xbar_moves.specs.declared.kind.Kind.Kind}
+use Rattle.{xbar_jobs.specs.Office.ShowsOffice, xbar_moves.specs.declared.kinds.Kind.Kind}
 use Rattle.{xbar_fabric.specs.{Meetings.{AreWordsAfter, FabricHasClosed}, Views.{DeskView, FabricView, new_desks, own}}, xbar_markers.specs.Calls.AreServed}
 use Rattle.xbar_markers.specs.{Outcomes.AreTaken, DesksByKind.{AreDesksByKind, kinds_of}, Work.{AreShort, HaveWorked, IsReady}, declared.call.Call.Call}
 use Rattle.xbar_markers.proofs.{Serving.all_weaker_served, TurnOrder.in_turn_order, WholeHistory.{are_taken, is_history}}

@@ -3,7 +3,7 @@ use Rattle.std.proofs.Common.{◌≡◌, ◌∙◌, ℕ, zero, suc, ◌<◌, ◌
 use Rattle.std.proofs.Common.{append_assoc, length-append, sym, refl, ap, subst, arith, sum_by}
 use Rattle.{std.proofs.lemmas.List.{Sums.sum_by-append, Elements.{All-append, All-cons, All-head, All-nil, All-tail}}, fair_queue.specs.Items.SameItems}
 use Rattle.{desks.specs.Parts.Begins, xbar_office.specs.declared.{job.Job.Job, reply.Record.Record}}
-use Rattle.{xbar_moves.specs.{Exchange.is_idle, Kinds.takes, declared.kind.Kind.Kind}, xbar_fabric.specs.Views.{DeskView, FabricView, mine}}
+use Rattle.{xbar_moves.specs.{Exchange.is_idle, Kinds.takes, declared.kinds.Kind.Kind}, xbar_fabric.specs.Views.{DeskView, FabricView, mine}}
 use Rattle.xbar_markers.specs.Work.{AreShort, HasDone, WorkerHasWorked, HaveWorked, IsReady}
 
 -- the record's job is one that this kind takes

@@ -1,6 +1,6 @@
 use Rattle.std.specs.Prelude.{◌≡◌, ℕ, ◌<◌, ◌++◌, List, All, map, replicate}
-use Rattle.xbar_moves.specs.declared.kind.Kind.{Kind}
-use Rattle.xbar_moves.specs.declared.kind.Kind.TheVariants.{Completing, Dial}
+use Rattle.xbar_moves.specs.declared.kinds.Kind.{Kind}
+use Rattle.xbar_moves.specs.declared.kinds.Kind.TheVariants.{Completing, Dial}
 use Rattle.xbar_fabric.specs.Views.{DeskView, FabricView}
 use Rattle.xbar_markers.specs.Work.{IsReady}
 

@@ -7,8 +7,8 @@ use Rattle.xbar_office.specs.declared.reply.Record.{Record}
 use Rattle.xbar_jobs.specs.Jobs.{first_conn}
 use Rattle.xbar_moves.specs.Exchange.{is_idle}
 use Rattle.xbar_moves.specs.Moves.{given_by, refusal_of}
-use Rattle.xbar_moves.specs.declared.assign_fault.AssignFault.{AssignFault}
-use Rattle.xbar_moves.specs.declared.given.Given.TheVariants as given
+use Rattle.xbar_moves.specs.declared.kinds.AssignFault.{AssignFault}
+use Rattle.xbar_moves.specs.declared.event.Given.TheVariants as given
 use Rattle.xbar_fabric.specs.Views.{DeskView, marker_of, mine}
 use Rattle.xbar_markers.specs.Work.{HasDone, HasMadeSteps, IsDoing, assigned_to}
 use Rattle.xbar_markers.specs.declared.handing.Handed.{Handed}

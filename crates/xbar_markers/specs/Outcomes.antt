@@ -7,7 +7,7 @@ use Rattle.xbar_office.specs.Legal.{IsLegal, after}
 use Rattle.xbar_office.specs.declared.reply.Record.{Record}
 use Rattle.xbar_jobs.specs.Office.{ShowsOffice}
 use Rattle.xbar_moves.specs.Kinds.{takes}
-use Rattle.xbar_moves.specs.declared.kind.Kind.{Kind}
+use Rattle.xbar_moves.specs.declared.kinds.Kind.{Kind}
 use Rattle.xbar_fabric.specs.Meetings.{AreWordsAfter, IsUnused}
 use Rattle.xbar_fabric.specs.Views.{own}
 use Rattle.xbar_markers.specs.Calls.{AreServed}

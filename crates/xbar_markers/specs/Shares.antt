@@ -3,7 +3,7 @@ use Rattle.std.specs.Prelude.{◌≡◌, ◌⊎◌, ℕ, Some, List, [], ◌∷�
 use Rattle.fair_queue.specs.Items.{SameItems}
 use Rattle.fair_queue.specs.Tickets.{IsUsable, first_ticket}
 use Rattle.xbar_office.specs.declared.reply.Record.{Record}
-use Rattle.xbar_moves.specs.declared.kind.Kind.{Kind}
+use Rattle.xbar_moves.specs.declared.kinds.Kind.{Kind}
 use Rattle.xbar_fabric.specs.Views.{DeskView, FabricView}
 use Rattle.xbar_markers.specs.Calls.{HasDialTone, IsServed, records_of}
 use Rattle.xbar_markers.specs.Work.{AreShort, WorkerHasWorked, HaveWorked, IsReady}

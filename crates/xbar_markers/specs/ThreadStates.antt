@@ -1,6 +1,6 @@
 -- Workers with their shares, before they go to threads and when they come back.
 use Rattle.std.specs.Prelude.{◌≡◌, ℕ, IsSomeAnd, List, [], ◌∷◌, All, length, map, slice_get, ⊤}
-use Rattle.xbar_moves.specs.declared.kind.Kind.{Kind}
+use Rattle.xbar_moves.specs.declared.kinds.Kind.{Kind}
 use Rattle.xbar_fabric.specs.Views.{DeskView, FabricView}
 use Rattle.xbar_markers.specs.Shares.{IsShareOf, MayUse, Queues, Share}
 use Rattle.xbar_markers.specs.Work.{IsReady}

@@ -3,7 +3,7 @@
 ghost use Rattle.std.specs.Prelude.{◌≡◌, ◌+◌, ◌*◌, ◌++◌, [], All, OnOk, Ok, false};
 ghost use Rattle.fair_queue.specs.Items.{SameItems};
 ghost use Rattle.fair_queue.specs.Tickets.{IsWhole};
-ghost use Rattle.xbar_moves.specs.declared.kind.Kind.TheVariants.{Completing};
+ghost use Rattle.xbar_moves.specs.declared.kinds.Kind.TheVariants.{Completing};
 ghost use Rattle.xbar_markers.specs.Calls.{HasDialTone, is_connected as is_connected_end};
 ghost use Rattle.xbar_markers.specs.Shares.{HasCompleted, HasServed, HasTickets, MayServe};
 ghost use Rattle.xbar_markers.specs.Work.{IsReady};

@@ -4,7 +4,7 @@ ghost use Rattle.std.specs.Prelude.{◌≡◌, ◌+◌, ◌*◌, OnOk, Ok, false
 ghost use Rattle.fair_queue.specs.Items.{SameItems};
 ghost use Rattle.fair_queue.specs.Tickets.{IsWhole};
 ghost use Rattle.xbar_office.specs.declared.job.Job.TheVariants as job;
-ghost use Rattle.xbar_moves.specs.declared.kind.Kind.TheVariants.{Dial};
+ghost use Rattle.xbar_moves.specs.declared.kinds.Kind.TheVariants.{Dial};
 ghost use Rattle.xbar_markers.specs.Calls.{HasCallNo, IsDialled};
 ghost use Rattle.xbar_markers.specs.Shares.{HasServed, HasTickets, MayServe};
 ghost use Rattle.xbar_markers.specs.Work.{HasDone, IsReady};

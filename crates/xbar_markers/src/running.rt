@@ -5,7 +5,7 @@ ghost use Rattle.std.specs.Prelude.{vec_len};
 ghost use Rattle.std.specs.List.Sorted.{IsNonDecreasingBy};
 ghost use Rattle.fair_queue.specs.Items.{SameItems};
 ghost use Rattle.fair_queue.specs.Tickets.{IsWhole};
-ghost use Rattle.xbar_moves.specs.declared.kind.Kind.TheVariants.{Completing, Dial};
+ghost use Rattle.xbar_moves.specs.declared.kinds.Kind.TheVariants.{Completing, Dial};
 ghost use Rattle.xbar_fabric.specs.Meetings.{AreAllIdle};
 ghost use Rattle.xbar_fabric.specs.Views.{DeskView};
 ghost use Rattle.xbar_markers.specs.Calls.{AreServed, HasCallNo, HasDialTone};

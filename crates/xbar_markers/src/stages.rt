@@ -2,7 +2,7 @@
 
 ghost use Rattle.std.specs.Prelude.{◌≡◌, All, IfOk, Ok, map, vec_len};
 ghost use Rattle.std.specs.Thread.{IsSend, IsSync};
-ghost use Rattle.xbar_moves.specs.declared.kind.Kind.TheVariants.{Completing, Dial};
+ghost use Rattle.xbar_moves.specs.declared.kinds.Kind.TheVariants.{Completing, Dial};
 ghost use Rattle.xbar_fabric.specs.Views.{DeskView};
 ghost use Rattle.xbar_markers.specs.ThreadStates.{HasWorkedOn, HaveWorkedOn, IsThreadState};
 ghost use Rattle.xbar_markers.specs.Shares.{AreOpen, HasStopped, MayUse};

@@ -2,7 +2,7 @@
 
 ghost use Rattle.std.specs.Prelude.{◌≡◌, ◌+◌, ◌-◌, ◌<◌, ◌++◌, List, All, IfOk, OnOk, map, vec_len};
 ghost use Rattle.fair_queue.specs.Tickets.{with_fewer_parts};
-ghost use Rattle.xbar_moves.specs.declared.kind.Kind.{Kind as KindView};
+ghost use Rattle.xbar_moves.specs.declared.kinds.Kind.{Kind as KindView};
 ghost use Rattle.xbar_fabric.specs.Views.{DeskView};
 ghost use Rattle.xbar_markers.specs.Gates.{AreForDesks};
 ghost use Rattle.xbar_markers.specs.ThreadStates.{AreStatesOf, IsThreadState, desk_at};

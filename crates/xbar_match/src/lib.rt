@@ -6,14 +6,12 @@
 
 pub use channels::{idle_links, idle_trunk_links, match_channel};
 pub use counts::{count_closed, count_paths};
-pub use effects::effects_of;
 pub use fields::{find_line, find_number, line_place_of, place_of};
 pub use traces::{trace, trace_back};
-pub use words::shape_at;
+pub use words::{effects_of, shape_at};
 
 mod channels;
 mod counts;
-mod effects;
 mod fields;
 pub mod laws;
 mod traces;

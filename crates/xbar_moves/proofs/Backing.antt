@@ -1,18 +1,31 @@
 -- a marker that is to begin its job anew withdraws its request and frees what it holds, and then is there
-use Rattle.std.proofs.Common.{◌≡◌, ℕ, suc, ◌+◌, ◌<◌, Bool, true, false, List, [], ◌∷◌, length, refl, sym, ◌∙◌, ap, subst, arith, Option, Some, None, is_some}
+use Rattle.std.proofs.Common.{◌≡◌, ℕ, suc, ◌+◌, Bool, true, false, List, [], ◌∷◌, length, refl, sym, ◌∙◌, ap, subst, arith, Option, Some, None, is_some}
 use Rattle.std.proofs.Common.{if◌then◌else◌, slice_get}
 use Rattle.turns.specs.Attempt.{act, act_in, change, changed, forgotten, free_act, giving_back, request_in, rest_of, restarted, restarted_in, turn_in}
-use Rattle.turns.specs.{Runs.is_finished, World.{Idle, Does}, declared.{answer.Answer.Answer, phase.Phase.TheVariants.{Requests, Seizes, Tests, Turns}}}
-use Rattle.{turns.specs.declared.phase.Phase.TheVariants.{Withdraws, GivesBack, Operates}, xbar_equip.specs.declared.conn.Conn.Conn}
-use Rattle.{xbar_plan.specs.Tables.Tables, xbar_jobs.specs.{Attempt.{Act, Attempt, Phase, next_step, step_of}, Office.office, declared.effect.Effect.Effect}}
-use Rattle.xbar_moves.specs.AtWork.{answer_to_step, IsBackingAt, IsBackingBy, IsBackingIn, withdraws_or_frees, withdraws_or_frees_at, is_turned}
-use Rattle.xbar_moves.specs.{Exchange.{Exchange, Marker, OfPlan, Work, is_idle}, Holding.IsAt}
-use Rattle.xbar_moves.specs.Moves.{backed_as, restarted_at, frees_left, given_at, given_back, given_by, request_count, after_step, steps}
-use Rattle.xbar_moves.proofs.{Jobs.{restarted_job, at_job_has, at_job_is, work_at}, StepCases.{gone_on, step_count}, Worlds.{answer_is, found_by}}
+use Rattle.turns.specs.{Runs.is_finished, World.{Idle, Does}, declared.answer.Answer.Answer}
+use Rattle.turns.specs.declared.phase.Phase.TheVariants.{Requests, Seizes, Tests, Turns, Withdraws, GivesBack, Operates}
+use Rattle.{xbar_equip.specs.declared.conn.Conn.Conn, xbar_plan.specs.Tables.Tables}
+use Rattle.xbar_jobs.specs.{Attempt.{Act, Attempt, Phase, next_step, step_of}, Office.office, declared.{effect.Effect.Effect, program.Step.Step}}
+use Rattle.xbar_moves.specs.{AtWork.{answer_to_step, IsBackingAt, IsBackingBy, IsBackingIn, is_turned}, Exchange.{Exchange, Marker, Work, is_idle}}
+use Rattle.xbar_moves.specs.{Holding.IsAt, Moves.{backed_as, restarted_at, frees_left, given_at, given_back, given_by, request_count, after_step, steps}}
+use Rattle.xbar_moves.proofs.{Jobs.{restarted_job, at_job_has, at_job_is}, StepCases.gone_on, Worlds.{answer_is, found_by}}
 use Rattle.turns.specs.Attempt as generic
 use Rattle.turns.specs.declared.act.Act.TheVariants as act_is
-use Rattle.xbar_moves.specs.declared.given.Given.TheVariants as given
-use Rattle.xbar_moves.specs.declared.given.Given.{Given}
+use Rattle.xbar_jobs.specs.declared.program.Step.TheVariants as steps_are
+use Rattle.xbar_moves.specs.declared.event.Given.TheVariants as given
+use Rattle.xbar_moves.specs.declared.event.Given.{Given}
+
+-- whether a step withdraws a request or frees a connector
+abbrev pub withdraws_or_frees : Step → Bool
+withdraws_or_frees (steps_are.Withdraw conn) = true
+withdraws_or_frees (steps_are.Free conn) = true
+withdraws_or_frees (steps_are.Request conn) = false
+withdraws_or_frees (steps_are.Seize conn expected) = false
+withdraws_or_frees (steps_are.Test word) = false
+withdraws_or_frees steps_are.Turn = false
+withdraws_or_frees (steps_are.Close word bits) = false
+withdraws_or_frees (steps_are.Open word mask) = false
+withdraws_or_frees steps_are.Finished = false
 
 -- what is left to give up
 abbrev pub left_in : Attempt → ℕ
@@ -145,54 +158,6 @@ pub gives_one : (plan : Tables) (k : ℕ) (e : Exchange) → IsBackingAt (slice_
 gives_one plan k e backs count left =
     let back = backing e k backs in
     gave_up plan e k back (goes_with back.attempt count back.backs (sym (left_is e k back.number back.attempt back.at) ∙ left))
-
--- as far as a loop has come: some things were given up, and the steps left lead to what all lead to
-pub record IsGivingUp (first now : OfPlan) (k : ℕ) : Type 0 where
-  pub plan : now.plan ≡ first.plan
-  pub count : length now.exchange.markers ≡ length first.exchange.markers
-  pub backs : IsBackingAt (slice_get now.exchange.markers k)
-  pub rest : steps first.plan k (frees_left first.exchange k) first.exchange ≡ steps first.plan k (frees_left now.exchange k) now.exchange
-
-pub none_given : (first : OfPlan) (k : ℕ) → IsBackingAt (slice_get first.exchange.markers k) → IsGivingUp first first k
-none_given first k backs = record { plan = refl; count = refl; backs = backs; rest = refl }
-
-module _ (first now next : OfPlan) (k : ℕ) (m : Marker) (there : slice_get now.exchange.markers k ≡ Some m) (so_far : IsGivingUp first now k) where
-  back : IsBacking now.exchange k
-  back = backing now.exchange k so_far.backs
-
-  next_up : withdraws_or_frees (next_step back.attempt) ≡ withdraws_or_frees_at m.work
-  next_up = ap withdraws_or_frees_at (sym (work_at now.exchange k back.number back.attempt m back.at there))
-
-  gave : withdraws_or_frees_at m.work ≡ true → GaveUp (after_step now.plan k now.exchange) k (frees_left now.exchange k)
-  gave goes = gave_up now.plan now.exchange k back (next_up ∙ goes)
-
-  pub one_given : withdraws_or_frees_at m.work ≡ true → next ≡ record now { exchange = after_step now.plan k now.exchange } → IsGivingUp first next k
-  unfolding steps
-  one_given goes is =
-      let less = gave goes in
-      record {
-        plan = ap (λ (o : OfPlan). o.plan) is ∙ so_far.plan;
-        count = ap (λ (o : OfPlan). length o.exchange.markers) is ∙ step_count now.plan now.exchange k ∙ so_far.count;
-        backs = subst (λ (o : OfPlan). IsBackingAt (slice_get o.exchange.markers k)) (sym is) less.backs;
-        rest =
-            so_far.rest ∙ ap (λ (n : ℕ). steps first.plan k n now.exchange) (sym less.one)
-            ∙ ap (λ (p : Tables). steps first.plan k (frees_left (after_step now.plan k now.exchange) k) (after_step p k now.exchange)) (sym so_far.plan)
-            ∙ ap (λ (o : OfPlan). steps first.plan k (frees_left o.exchange k) o.exchange) (sym is);
-      }
-
-  -- each time there is less to give up
-  pub less_given : withdraws_or_frees_at m.work ≡ true → next ≡ record now { exchange = after_step now.plan k now.exchange }
-      → frees_left next.exchange k < frees_left now.exchange k
-  less_given goes is =
-      let less = gave goes in
-      let after = ap (λ (o : OfPlan). frees_left o.exchange k) is in
-      omega (arith, less.one, after)
-
-  pub all_given : withdraws_or_frees_at m.work ≡ false → now ≡ record first { exchange = steps first.plan k (frees_left first.exchange k) first.exchange }
-  unfolding steps
-  all_given rests =
-      let same = so_far.rest ∙ ap (λ (n : ℕ). steps first.plan k n now.exchange) (none_left now.plan now.exchange k back (next_up ∙ rests)) in
-      λ i. record { plan = so_far.plan i; exchange = sym same i }
 
 module _ (plan : Tables) where
   -- a marker that is not past its turn is on its way back once it is to begin anew

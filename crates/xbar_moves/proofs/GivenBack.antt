@@ -13,8 +13,8 @@ use Rattle.xbar_moves.{specs.Moves.{request_count, after_step, steps}, proofs.Ba
 use Rattle.xbar_moves.proofs.{Keeping.{KeepsRestarts, back_keeps, restarts_keep}, Jobs.{one_job, set_at}, Markers.marker_else}
 use Rattle.xbar_moves.proofs.{StepCases.{now_at, step_cases, step_else}, Worlds.{added_at, answer_is, found_by, words_are}}
 use Rattle.turns.specs.Attempt as generic
-use Rattle.xbar_moves.specs.declared.given.Given.TheVariants as given
-use Rattle.xbar_moves.specs.declared.given.Given.{Given}
+use Rattle.xbar_moves.specs.declared.event.Given.TheVariants as given
+use Rattle.xbar_moves.specs.declared.event.Given.{Given}
 
 module _ (plan : Tables) (k : ℕ) (Has : Exchange → Type 0) where
   -- each step of a marker on its way back keeps it

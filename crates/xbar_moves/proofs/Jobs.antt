@@ -5,7 +5,7 @@ use Rattle.{turns.specs.declared.phase.Phase.TheVariants.{Requests, Seizes, Test
 use Rattle.{xbar_office.specs.declared.job.Job.Job, xbar_jobs.specs.{Attempt.{Attempt, Phase}, Jobs.first_conn, Office.office}}
 use Rattle.xbar_moves.specs.{Exchange.{Exchange, Marker, Work, at_marker, on_job}, Holding.IsAt}
 use Rattle.xbar_moves.{specs.Moves.{assigned, restarted_at, given_at, given_by, with_work, restarted_work}, proofs.Markers.marker_set}
-use Rattle.xbar_moves.specs.declared.given.Given.TheVariants as given
+use Rattle.xbar_moves.specs.declared.event.Given.TheVariants as given
 
 pub at_marker_has : {A : Type 0} (Has : A → Type 0) (otherwise : A) (of_marker : Marker → A) (found : Option Marker)
     → Has otherwise → ((m : Marker) → found ≡ Some m → Has (of_marker m)) → Has (at_marker otherwise of_marker found)

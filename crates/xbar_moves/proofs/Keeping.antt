@@ -5,8 +5,8 @@ use Rattle.{turns.specs.{Attempt.{restarted, turn_in}, World.{Idle, Does}}, xbar
 use Rattle.xbar_moves.specs.{Exchange.{Exchange, Marker, Work}, Holding.IsAt, Moves.{backed_as, restarted_at, frees_left, given_at, given_back, after_step}}
 use Rattle.xbar_moves.specs.{Moves.{steps, with_work, restarted_work}, Settling.{ended, ended_past_turn, for_each, most_steps_alone, settled}}
 use Rattle.xbar_moves.proofs.{Jobs.{at_job_has, at_marker_has}, Markers.marker_same, StepCases.step_count}
-use Rattle.xbar_moves.specs.declared.given.Given.TheVariants as given
-use Rattle.xbar_moves.specs.declared.given.Given.{Given}
+use Rattle.xbar_moves.specs.declared.event.Given.TheVariants as given
+use Rattle.xbar_moves.specs.declared.event.Given.{Given}
 
 -- marker k is at an attempt at the job of a number, and begins it anew
 abbrev pub KeepsRestarts : Tables → (Exchange → Type 0) → ℕ → Type 0

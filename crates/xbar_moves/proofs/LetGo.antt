@@ -8,7 +8,7 @@ use Rattle.xbar_office.specs.{Legal.IsJob, Release.{release, release_from, witho
 use Rattle.xbar_office.{specs.{Whole.whole, declared.job.Job.{Job, TheVariants.{Dial, Complete, Release}}}, proofs.EndsOfJobs.left_in}
 use Rattle.xbar_jobs.specs.{Closing.{leave_effects, leave_of}, Completing.{call, call_from, call_without, complete_from, complete_steps, if_register}}
 use Rattle.xbar_jobs.specs.{Jobs.script, Office.ShowsOffice, Releasing.release_steps, Script.as_if_made, Sides.party_after, declared.decision.Decision.Decision}
-use Rattle.xbar_jobs.{specs.declared.{leave.Leave.Leave, party.Party.Party}, proofs.{CompleteDecides.complete_runs, DialDecides.dial_takes}}
+use Rattle.xbar_jobs.{specs.declared.{decision.Leave.Leave, party.Party.Party}, proofs.{CompleteDecides.complete_runs, DialDecides.dial_takes}}
 use Rattle.xbar_jobs.proofs.{FreedMembers.other_stays, LeaveEffects.IsLeave, ReleaseDecides.{ComesTo, HasNone, LetsGo as CallGoes, release_comes}}
 use Rattle.{xbar_jobs.proofs.TestedParties.party_of, xbar_moves.proofs.TrunkPaths.register_gone}
 

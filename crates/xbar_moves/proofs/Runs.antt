@@ -1,9 +1,8 @@
 -- whatever moves markers make, the office that they come to is lawful
 use Rattle.std.proofs.Common.{◌≡◌, ℕ, ◌≤◌, List, [], ◌∷◌, length, refl, Option, Some, None}
-use Rattle.{xbar_plan.specs.{Tables.Tables, Lawful.IsLawful}, xbar_office.specs.{Legal.IsJob, declared.job.Job.Job}}
-use Rattle.xbar_moves.specs.{Exchange.{Exchange, IsLawfulExchange, fresh_exchange}, Moves.{assigned, refusal}}
-use Rattle.xbar_moves.specs.Runs.{AreMoves, Assigns, Restarts, GivesBack, IsMove, Move, Settles, Steps, after_move, run_from, run_of, unless_refused}
-use Rattle.xbar_moves.specs.declared.{assign_fault.AssignFault.AssignFault, kind.Kind.Kind}
+use Rattle.{xbar_plan.specs.{Tables.Tables, Lawful.IsLawful}, xbar_office.specs.{Legal.IsJob, declared.job.Job.Job}, xbar_moves.specs.Exchange.Exchange}
+use Rattle.xbar_moves.specs.{Exchange.{IsLawfulExchange, fresh_exchange}, Moves.{assigned, refusal}, Runs.{AreMoves, Assigns, Restarts, GivesBack, IsMove}}
+use Rattle.xbar_moves.specs.{Runs.{Move, Settles, Steps, after_move, run_from, run_of, unless_refused}, declared.kinds.{AssignFault.AssignFault, Kind.Kind}}
 use Rattle.xbar_moves.proofs.Worlds.{lawful_assigned, lawful_restarted, lawful_given_back, lawful_opened, lawful_settled, lawful_stepped}
 
 module _ (plan : Tables) (laws : IsLawful plan) where

@@ -3,9 +3,9 @@ use Rattle.std.proofs.Common.{◌≡◌, ◌⊎◌, List, [], ◌∷◌, ◌++�
 use Rattle.{std.specs.Option.option_map_or, turns.{specs.Among.IsIn, proofs.Lists.{in_back, in_either, in_front}}, xbar_equip.specs.Crosspoint.crosspoints}
 use Rattle.{xbar_equip.specs.declared.{crosspoint.Crosspoint.Crosspoint, path.Path.Path}, xbar_plan.specs.Tables.Tables, xbar_office.specs.declared.job.Job.Job}
 use Rattle.xbar_jobs.specs.Closing.{called_closes, effects as effects_of, leave_effects, other_opens, path_closes, path_opens, take_effects}
-use Rattle.xbar_jobs.specs.{Opening.call_crosspoints, declared.{decision.Decision.Decision, effect.Effect.Effect}}
-use Rattle.xbar_jobs.specs.declared.{effect.Effect.TheVariants.{Close, Open, SetBit, ClearBit}, leave.Leave.Leave, take.Take.Take}
-use Rattle.{xbar_jobs.proofs.CallCrosspoints.{call_opens, of_call}, xbar_moves.proofs.{Among.among_equip, LetGo.{AreGone, IsGone, LetsGo, Nothing, Paths}}}
+use Rattle.xbar_jobs.specs.{Opening.call_crosspoints, declared.{decision.{Decision.Decision, Leave.Leave, Take.Take}, effect.Effect.Effect}}
+use Rattle.xbar_jobs.{specs.declared.effect.Effect.TheVariants.{Close, Open, SetBit, ClearBit}, proofs.CallCrosspoints.{call_opens, of_call}}
+use Rattle.xbar_moves.proofs.{Among.among_equip, LetGo.{AreGone, IsGone, LetsGo, Nothing, Paths}}
 
 -- a crosspoint among those that effects open is one of these
 pub in_opens : (c : Crosspoint) (cs : List Crosspoint) → IsIn (Open c) (map Open cs) → IsIn c cs

@@ -9,7 +9,7 @@ use Rattle.xbar_plan.{specs.declared.group.Member.Member, proofs.{LawfulLookups.
 use Rattle.{xbar_plan.proofs.MemberPlaces.member_place-member, xbar_office.specs.{Chosen.with_chosen, Complete.{call, call_line, call_number, complete}}}
 use Rattle.xbar_office.specs.{Complete.{connect, try_trunk}, Done.{Done, chosen_paths, with_added}, LawfulSet.IsLawfulSet, Members.members_of}
 use Rattle.xbar_office.specs.{Standing.register_path, Trunks.{called_line, idle_trunk, leads_inside}, TwoTrials.two_trials, declared.route.IdleTrunk.IdleTrunk}
-use Rattle.xbar_office.{specs.declared.{trial.Parties.Parties, two_trials.Choice.Choice}, proofs.CallJobs.{called_are, idle_trunk-is, leads_out, lines_range}}
+use Rattle.xbar_office.{specs.declared.trial.{Parties.Parties, Choice.Choice}, proofs.CallJobs.{called_are, idle_trunk-is, leads_out, lines_range}}
 use Rattle.xbar_office.proofs.{CallJobs.outgoing_are, CompletedJobs.{complete-is_call, line_idle}, GoodTrials.{AreParties, GoodChoice, good_trials}}
 use Rattle.xbar_office.proofs.{RegisterPaths.{ends_at_register-is, register_path-is}, TakenMembers.{CalledCanStand, second-has}}
 

@@ -10,7 +10,7 @@ use Rattle.xbar_jobs.specs.{Attempt.{Attempt, Phase, next_step}, Office.office, 
 use Rattle.xbar_jobs.proofs.{OfficeSystem.office_is, PastTurn.{answer_led, words_led}}
 use Rattle.xbar_moves.specs.{Exchange.{Exchange, IsLawfulExchange, Marker, Work, is_idle, fresh_exchange, turned, world}, Kinds.takes}
 use Rattle.xbar_moves.specs.Moves.{after_answer, assigned, restarted_at, given_back, record_of, added_record, refusal, refusal_of, after_step, with_work}
-use Rattle.xbar_moves.specs.{Settling.settled, declared.{assign_fault.AssignFault.{AssignFault, TheVariants.{NoMarker, NotIdle, WrongKind}}, kind.Kind.Kind}}
+use Rattle.xbar_moves.specs.{Settling.settled, declared.kinds.{AssignFault.{AssignFault, TheVariants.{NoMarker, NotIdle, WrongKind}}, Kind.Kind}}
 use Rattle.xbar_moves.proofs.{Actors.actor_at, Jobs.{assigned_is, at_marker_has}, Markers.{actor_there, works, works_set}, StepCases.step_cases}
 use Rattle.xbar_moves.proofs.Keeping.{KeepsRestarts, back_keeps, restarts_keep, settled_keeps}
 use Rattle.turns.specs.Attempt as generic

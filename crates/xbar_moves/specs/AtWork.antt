@@ -5,8 +5,8 @@ use Rattle.turns.specs.declared.phase.Phase.TheVariants.{Requests, Seizes, Tests
 use Rattle.xbar_equip.specs.declared.conn.Conn.{Conn}
 use Rattle.xbar_jobs.specs.Attempt.{Attempt, Phase, next_step}
 use Rattle.xbar_jobs.specs.OnWords.{answer_of}
-use Rattle.xbar_jobs.specs.declared.step.Step.{Step}
-use Rattle.xbar_jobs.specs.declared.step.Step.TheVariants as step
+use Rattle.xbar_jobs.specs.declared.program.Step.{Step}
+use Rattle.xbar_jobs.specs.declared.program.Step.TheVariants as step
 use Rattle.xbar_moves.specs.Exchange.{Marker, Work, at_marker, on_job}
 
 -- the answer to the next step of marker k's attempt
@@ -25,25 +25,9 @@ conn_asked (step.Open word mask) = None
 conn_asked (step.Free conn) = None
 conn_asked step.Finished = None
 
--- whether a step withdraws a request or frees a connector
-abbrev pub withdraws_or_frees : Step → Bool
-withdraws_or_frees (step.Withdraw conn) = true
-withdraws_or_frees (step.Free conn) = true
-withdraws_or_frees (step.Request conn) = false
-withdraws_or_frees (step.Seize conn expected) = false
-withdraws_or_frees (step.Test word) = false
-withdraws_or_frees step.Turn = false
-withdraws_or_frees (step.Close word bits) = false
-withdraws_or_frees (step.Open word mask) = false
-withdraws_or_frees step.Finished = false
-
 -- whether a marker's job has taken its turn
 abbrev pub is_turned : Work → Bool
 is_turned work = on_job false (λ number a. is_some (turn_in a.phase)) work
-
--- whether a marker's next step withdraws a request or frees a connector
-abbrev pub withdraws_or_frees_at : Work → Bool
-withdraws_or_frees_at work = on_job false (λ number a. withdraws_or_frees (next_step a)) work
 
 -- a marker's next step; Finished if it has no job, or nothing is left of it
 abbrev pub next_step_at : Work → Step

@@ -1,8 +1,8 @@
 use Rattle.std.specs.Prelude.{ℕ, ◌<◌, ◌≤◌, Bool, true, false, List, [], ◌∷◌}
 use Rattle.xbar_office.specs.declared.job.Job.{Job}
 use Rattle.xbar_office.specs.declared.job.Job.TheVariants as job
-use Rattle.xbar_moves.specs.declared.kind.Kind.{Kind}
-use Rattle.xbar_moves.specs.declared.kind.Kind.TheVariants as kind
+use Rattle.xbar_moves.specs.declared.kinds.Kind.{Kind}
+use Rattle.xbar_moves.specs.declared.kinds.Kind.TheVariants as kind
 
 -- which jobs a marker of a kind takes: dial tone jobs, completing jobs and releases, or all
 abbrev pub takes : Kind → Job → Bool

@@ -14,13 +14,13 @@ use Rattle.xbar_jobs.specs.Office.{office}
 use Rattle.xbar_jobs.specs.OnWords.{answer_of, words_after}
 use Rattle.xbar_moves.specs.Exchange.{Exchange, Marker, Work, at_marker, is_idle, on_job}
 use Rattle.xbar_moves.specs.Kinds.{takes}
-use Rattle.xbar_moves.specs.declared.assign_fault.AssignFault.{AssignFault}
-use Rattle.xbar_moves.specs.declared.assign_fault.AssignFault.TheVariants.{NoMarker, NotIdle, WrongKind}
+use Rattle.xbar_moves.specs.declared.kinds.AssignFault.{AssignFault}
+use Rattle.xbar_moves.specs.declared.kinds.AssignFault.TheVariants.{NoMarker, NotIdle, WrongKind}
 use Rattle.xbar_moves.specs.declared.event.Event.{Event}
 use Rattle.xbar_moves.specs.declared.event.Event.TheVariants as event
-use Rattle.xbar_moves.specs.declared.given.Given.{Given}
-use Rattle.xbar_moves.specs.declared.given.Given.TheVariants as given
-use Rattle.xbar_moves.specs.declared.kind.Kind.{Kind}
+use Rattle.xbar_moves.specs.declared.event.Given.{Given}
+use Rattle.xbar_moves.specs.declared.event.Given.TheVariants as given
+use Rattle.xbar_moves.specs.declared.kinds.Kind.{Kind}
 
 -- the office once marker k has this work
 abbrev pub with_work : ℕ → Marker → Work → Exchange → Exchange
@@ -160,13 +160,14 @@ abbrev pub request_count : Option Conn → ℕ
 request_count None = 0
 request_count (Some conn) = 1
 
--- how many steps marker k has to make until it holds nothing: one to withdraw its request, if it
--- has one, and one for each connector that it holds
+-- how many steps a marker with this work has to make until it holds nothing: one to withdraw its
+-- request, if it has one, and one for each connector that it holds
+abbrev pub frees_left_by : Work → ℕ
+frees_left_by work = on_job 0 (λ number a. request_count (request_in a.phase) + length a.held) work
+
+-- the same for marker k
 abbrev pub frees_left : Exchange → ℕ → ℕ
-frees_left e k =
-    at_marker 0 (λ m. on_job 0
-    (λ number a. request_count (request_in a.phase) + length a.held) m.work)
-    (slice_get e.markers k)
+frees_left e k = at_marker 0 (λ m. frees_left_by m.work) (slice_get e.markers k)
 
 -- the office after a give back, or as it was before if the marker doesn't give back
 abbrev pub backed_as : Given → Exchange → Exchange → Exchange

@@ -5,9 +5,9 @@ use Rattle.xbar_office.specs.declared.job.Job.{Job}
 use Rattle.xbar_moves.specs.Exchange.{Exchange, fresh_exchange}
 use Rattle.xbar_moves.specs.Moves.{assigned, restarted_at, given_back, refusal, after_step}
 use Rattle.xbar_moves.specs.Settling.{settled}
-use Rattle.xbar_moves.specs.declared.kind.Kind.{Kind}
+use Rattle.xbar_moves.specs.declared.kinds.Kind.{Kind}
 use Rattle.std.specs.Prelude.{Option, None, Some}
-use Rattle.xbar_moves.specs.declared.assign_fault.AssignFault.{AssignFault}
+use Rattle.xbar_moves.specs.declared.kinds.AssignFault.{AssignFault}
 
 -- a move of an office: a job is assigned to a marker under a number; a marker makes its next step,
 -- has its job restarted, or gives back all that it holds at once; or the office settles

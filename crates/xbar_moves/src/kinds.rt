@@ -1,9 +1,77 @@
 ghost use Rattle.std.specs.Prelude.{◌≡◌, ◌↔◌, IfSome, IsSome, length};
 ghost use Rattle.xbar_moves.specs.Kinds.{IsMarkerCount, combined_pair};
+ghost use Rattle.xbar_moves.specs.declared.kinds.AssignFault.TheVariants.{Memory};
 
-use crate::kind::Kind;
 use arrayvec::ArrayVec;
+use std::alloc::AllocError;
 use std::marker::Model;
+use thiserror::Error;
+use xbar_office::Job;
+
+/// Which jobs a marker takes. Early offices had one kind of marker, later ones two.
+#[derive(Clone, Copy, Debug, Default, PartialEq, Eq)]
+pub enum Kind {
+    /// Dial tone jobs.
+    Dial,
+    /// Completing jobs and releases.
+    Completing,
+    /// All jobs.
+    #[default]
+    Combined,
+}
+
+impl Kind {
+    ghost use Rattle.xbar_moves.specs.Kinds.{takes as takes_of};
+    ghost use Rattle.xbar_moves.specs.Moves.{fault_by};
+
+    /// Whether a marker of this kind takes the job.
+    pub fn takes(&self, job: &Job) -> bool
+        ensures { result ≡ takes_of self.now job.now }
+    {
+        match (self, job) {
+            (Kind::Combined, _) => true,
+            (Kind::Dial, Job::Dial(_)) => true,
+            (Kind::Dial, Job::Complete(_, _) | Job::Release(_)) => false,
+            (Kind::Completing, Job::Dial(_)) => false,
+            (Kind::Completing, Job::Complete(_, _) | Job::Release(_)) => true,
+        }
+    }
+
+    /// Why a marker of this kind, idle or not, can't be assigned the job. None if it can.
+    pub fn refuses(&self, is_idle: bool, job: &Job) -> Option<AssignFault>
+        ensures { result ≡ fault_by is_idle self.now job.now }
+    {
+        if !is_idle {
+            Some(AssignFault::NotIdle)
+        } else if self.takes(job) {
+            None
+        } else {
+            Some(AssignFault::WrongKind)
+        }
+    }
+}
+
+/// Why a job can't be assigned to a marker. If several reasons apply, the first of these is
+/// returned.
+#[derive(Debug, Drop, Clone, Copy, PartialEq, Eq, Error)]
+pub enum AssignFault {
+    #[error("there is no such marker")]
+    NoMarker,
+    #[error("the marker has a job")]
+    NotIdle,
+    #[error("the marker takes no jobs of this kind")]
+    WrongKind,
+    #[error("memory ran out")]
+    Memory,
+}
+
+impl From<AllocError> for AssignFault {
+    ghost from_gives = { λ _ fault. fault ≡ Memory };
+
+    fn from(_why: AllocError) -> Self {
+        AssignFault::Memory
+    }
+}
 
 /// The most markers that an office has.
 pub const MOST_MARKERS: usize = 48;
@@ -18,7 +86,7 @@ pub struct Kinds {
 impl Model for Kinds {
     ghost use Rattle.std.specs.Prelude.{List, length};
     ghost use Rattle.xbar_moves.specs.Kinds.{IsMarkerCount};
-    ghost use Rattle.xbar_moves.specs.declared.kind.Kind.{Kind};
+    ghost use Rattle.xbar_moves.specs.declared.kinds.Kind.{Kind};
 
     ghost Value = { List Kind };
 

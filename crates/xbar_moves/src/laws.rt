@@ -37,7 +37,7 @@ ghost use Rattle.xbar_moves.specs.Moves.{assigned, restarted_at, event_at_step, 
 ghost use Rattle.xbar_moves.specs.Runs.{AreMoves, Move, run_of};
 ghost use Rattle.xbar_moves.specs.Settling.{settled};
 ghost use Rattle.xbar_moves.specs.declared.event.Event.{Event};
-ghost use Rattle.xbar_moves.specs.declared.kind.Kind.{Kind};
+ghost use Rattle.xbar_moves.specs.declared.kinds.Kind.{Kind};
 
 /// A new office is lawful, and each assignment, step, restart, give back and settling keeps it
 /// lawful. A step that is a turn adds its record at the end; any other step adds none.

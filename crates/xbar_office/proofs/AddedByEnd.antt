@@ -3,7 +3,7 @@ use Rattle.std.proofs.Common.{◌≡◌, ◌≢◌, ℕ, ◌+◌, false, List, [
 use Rattle.xbar_equip.{specs.{Ten.TrunkPlace, Paths.{has_line, with_path}, declared.path.Path.Path}, proofs.{PathSets.in-with, PathTests.line_eq-exact}}
 use Rattle.{xbar_plan.specs.{Tables.{Tables, member_at}, Lawful.IsLawful, declared.group.Member.Member}, xbar_office.specs.Done.{Done, refused, tried}}
 use Rattle.xbar_office.specs.{Done.{with_added, chosen_paths}, LawfulSet.IsLawfulSet, Replies.trials_end, AddedPaths.{added_by, added_count}}
-use Rattle.xbar_office.specs.declared.{reply.{Card.Card, End.End, Reply.Reply}, trial.CallPaths.CallPaths, two_trials.{Choice.Choice, Trials.Trials}}
+use Rattle.xbar_office.specs.declared.{reply.{Card.Card, End.End, Reply.Reply}, trial.{CallPaths.CallPaths, Choice.Choice, Trials.Trials}}
 use Rattle.xbar_office.proofs.{AddedPaths.not_of_set, GoodTrials.GoodChoice, TakenMembers.CalledCanStand, TriedJobs.{lawful-tried, length-tried}}
 use Rattle.xbar_office.specs.declared.aim.Aim.TheVariants as aim
 

@@ -7,7 +7,7 @@ use Rattle.xbar_office.specs.{Complete.{try_trunk, connect, call_line, call_numb
 use Rattle.xbar_office.specs.{Replies.trials_end, Standing.register_path, Trial.{called_leg, with_called, matched, end_of, faulty_or_chosen, trial}}
 use Rattle.xbar_office.specs.{Trunks.{leads_inside, called_line, idle_trunk}, TwoTrials.{first_decides, second_decides, trial_at, two_trials}}
 use Rattle.xbar_office.specs.declared.{reply.{Card.Card, End.{End, TheVariants.Connected}}, route.IdleTrunk.IdleTrunk, trial.{CallPaths.CallPaths, Leg.Leg}}
-use Rattle.xbar_office.specs.declared.{trial.{Parties.Parties, TrialEnd.{TrialEnd, TheVariants.{Chosen, Faulty, NoChannel}}}, two_trials.Choice.Choice}
+use Rattle.xbar_office.specs.declared.trial.{Parties.Parties, TrialEnd.{TrialEnd, TheVariants.{Chosen, Faulty, NoChannel}}, Choice.Choice}
 use Rattle.xbar_office.specs.declared.aim.Aim.TheVariants as aim
 
 module _ (plan : Tables) (paths : List Path) (parties : Parties) where

@@ -9,7 +9,7 @@ use Rattle.xbar_plan.specs.{Group.{TrunkGroup, places}, Tables.{Tables, member_a
 use Rattle.{xbar_plan.proofs.LawfulPlans.{has-stands_at, place_at-range, pair-apart}, xbar_office.specs.{LawfulSet.IsMembersPlace, Members.members_of}}
 use Rattle.xbar_office.specs.{Members.{is_member_idle, is_idle_at, next_idle}, Trial.{faulty_or_chosen, end_of, with_called, matched, called_leg, trial}}
 use Rattle.xbar_office.specs.{TwoTrials.{second_decides, first_decides, trial_at, two_trials}, declared.{reply.Card.Card, trial.CallPaths.CallPaths}}
-use Rattle.xbar_office.specs.declared.{trial.{Parties.Parties, TrialEnd.{TrialEnd, TheVariants.{Chosen, Faulty, NoChannel}}}, two_trials.Choice.Choice}
+use Rattle.xbar_office.specs.declared.trial.{Parties.Parties, TrialEnd.{TrialEnd, TheVariants.{Chosen, Faulty, NoChannel}}, Choice.Choice}
 use Rattle.xbar_office.proofs.{AddedPaths.idle-with_other, StandingPaths.CanStand, TakenMembers.{CanTake, CalledCanStand, second-has}}
 
 -- a member of a group is a member of the plan

@@ -2,7 +2,7 @@
 -- chosen
 use Rattle.std.proofs.Common.{◌≡◌, ℕ, ◌+◌, List, length, arith, Option, Some, None}
 use Rattle.{xbar_equip.specs.declared.path.Path.Path, xbar_plan.specs.{Tables.Tables, Lawful.IsLawful}}
-use Rattle.xbar_office.specs.{Done.{with_added, chosen_paths}, LawfulSet.IsLawfulSet, AddedPaths.added_count, declared.two_trials.Choice.Choice}
+use Rattle.xbar_office.specs.{Done.{with_added, chosen_paths}, LawfulSet.IsLawfulSet, AddedPaths.added_count, declared.trial.Choice.Choice}
 use Rattle.xbar_office.proofs.{GoodTrials.GoodChoice, TakenMembers.{length-take, lawful-take}}
 
 pub lawful-tried : (plan : Tables) (paths : List Path) (group : ℕ) (choice : Option Choice) → GoodChoice plan paths group choice → IsLawful plan

@@ -7,8 +7,8 @@ use Rattle.xbar_office.specs.declared.aim.Aim.{Aim}
 use Rattle.xbar_office.specs.declared.reply.End.{End}
 use Rattle.xbar_office.specs.declared.reply.Reply.{Reply}
 use Rattle.xbar_office.specs.declared.trial.CallPaths.{CallPaths}
-use Rattle.xbar_office.specs.declared.two_trials.Choice.{Choice}
-use Rattle.xbar_office.specs.declared.two_trials.Trials.{Trials}
+use Rattle.xbar_office.specs.declared.trial.Choice.{Choice}
+use Rattle.xbar_office.specs.declared.trial.Trials.{Trials}
 
 -- the outcome of a job: the set of paths after it, and its reply
 pub record Done : Type 0 where

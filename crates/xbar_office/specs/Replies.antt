@@ -5,8 +5,8 @@ use Rattle.xbar_office.specs.declared.reply.Card.{Card}
 use Rattle.xbar_office.specs.declared.reply.End.{End}
 use Rattle.xbar_office.specs.declared.reply.End.TheVariants.{DialTone, Connected, NoPath, Trouble}
 use Rattle.xbar_office.specs.declared.reply.Reply.{Reply}
-use Rattle.xbar_office.specs.declared.two_trials.Choice.{Choice}
-use Rattle.xbar_office.specs.declared.two_trials.Trials.{Trials}
+use Rattle.xbar_office.specs.declared.trial.Choice.{Choice}
+use Rattle.xbar_office.specs.declared.trial.Trials.{Trials}
 
 -- a reply without cards
 abbrev pub plain_reply : End → Reply

@@ -9,10 +9,6 @@ use Rattle.xbar_plan.specs.Tables.{Tables}
 use Rattle.xbar_office.specs.Members.{members_of, first_idle}
 use Rattle.xbar_office.specs.declared.route.IdleTrunk.{IdleTrunk}
 
--- the plan has each of these groups
-abbrev pub AreGroups : Tables → List ℕ → Type 0
-AreGroups plan groups = (k group : ℕ) → slice_get groups k ≡ Some group → group < length plan.groups
-
 -- whether all these groups of a code are intra groups
 abbrev pub leads_inside : Tables → List ℕ → Bool
 leads_inside plan groups = list_all (is_group is_intra plan.groups) groups

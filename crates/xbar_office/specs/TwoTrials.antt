@@ -9,7 +9,7 @@ use Rattle.xbar_office.specs.declared.reply.Card.{Card}
 use Rattle.xbar_office.specs.declared.trial.Parties.{Parties}
 use Rattle.xbar_office.specs.declared.trial.TrialEnd.{TrialEnd}
 use Rattle.xbar_office.specs.declared.trial.TrialEnd.TheVariants.{Chosen, Faulty, NoChannel}
-use Rattle.xbar_office.specs.declared.two_trials.Trials.{Trials}
+use Rattle.xbar_office.specs.declared.trial.Trials.{Trials}
 
 -- the card of a trial, if it was faulty
 abbrev pub cards_of : ℕ → TrialEnd → List Card

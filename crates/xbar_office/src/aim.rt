@@ -2,7 +2,7 @@ ghost use Rattle.std.specs.Prelude.{◌≡◌};
 ghost use Rattle.xbar_office.specs.Replies.{success_end as success_end_of};
 
 use crate::reply::End;
-use crate::two_trials::Choice;
+use crate::trial::Choice;
 
 /// What the trials of a job are for.
 #[derive(Clone, Copy, Debug, PartialEq, Eq)]

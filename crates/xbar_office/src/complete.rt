@@ -4,13 +4,12 @@ ghost use Rattle.std.specs.Prelude.{◌≡◌};
 ghost use Rattle.xbar_equip.specs.Dialled.{code_of};
 ghost use Rattle.xbar_plan.specs.Tables.{lines_of, route_of};
 ghost use Rattle.xbar_office.specs.Complete.{call as call_of, call_number as call_number_of, connect as connect_of};
-ghost use Rattle.xbar_office.specs.Trunks.{AreGroups};
+ghost use Rattle.xbar_plan.specs.Tables.{AreGroups};
 
 use crate::aim::Aim;
 use crate::reply::{End, Reply};
 use crate::route::{called_line, idle_trunk, leads_inside, members};
-use crate::trial::Parties;
-use crate::two_trials::two_trials;
+use crate::trial::{Parties, two_trials};
 use xbar_equip::{Dialled, DirNo, Len, Path};
 use xbar_plan::Plan;
 use xbar_plan::laws::{codes_lead_to_trunks, every_plan_is_lawful};

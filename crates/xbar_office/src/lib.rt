@@ -10,8 +10,7 @@ pub use job::Job;
 pub use office::Office;
 pub use reply::{Card, End, Record, Reply};
 pub use route::leads_inside;
-pub use trial::{CallPaths, TrialEnd};
-pub use two_trials::{Choice, Trials};
+pub use trial::{CallPaths, Choice, TrialEnd, Trials};
 
 mod aim;
 mod audit_fault;
@@ -28,5 +27,4 @@ mod route;
 mod sets;
 mod standing;
 mod trial;
-mod two_trials;
 mod whole;

@@ -3,8 +3,7 @@ ghost use Rattle.std.specs.Prelude.{◌≡◌, ◌↔◌, IsTrue, ◌<◌, ℕ, 
 use crate::aim::Aim;
 use crate::cards::Cards;
 use crate::job::Job;
-use crate::trial::CallPaths;
-use crate::two_trials::Trials;
+use crate::trial::{CallPaths, Trials};
 use xbar_equip::{Link, LinkKind, Path};
 
 /// A trouble card: the number of a trial, and the faulty link that it met.

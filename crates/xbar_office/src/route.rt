@@ -3,7 +3,8 @@
 ghost use Rattle.std.specs.Prelude.{◌≡◌, ◌<◌, ◌≤◌, ℕ, Some, IfSome, List, length, slice_get};
 ghost use Rattle.xbar_plan.specs.Tables.{Tables};
 ghost use Rattle.xbar_office.specs.Members.{members_of};
-ghost use Rattle.xbar_office.specs.Trunks.{AreGroups, leads_inside as leads_inside_of, called_line as called_line_of, idle_trunk as idle_trunk_of};
+ghost use Rattle.xbar_plan.specs.Tables.{AreGroups};
+ghost use Rattle.xbar_office.specs.Trunks.{leads_inside as leads_inside_of, called_line as called_line_of, idle_trunk as idle_trunk_of};
 
 use crate::members::first_idle;
 use crate::sets::is_line_idle;
@@ -23,8 +24,6 @@ pub fn members(plan: &Plan, group: u8) -> &[Member]
     ensures members { result.now ≡ members_of plan.now group }
     ensures size { length result.now ≤ 40 }
 {
-    // Called only for its contract.
-    xbar_plan::laws::groups_have_members();
     plan.group(group).members()
 }
 

@@ -1,14 +1,13 @@
 -- The figures that show crosspoints and cards, in each part of a drawing.
-use Rattle.std.proofs.Common.{◌≡◌, ℕ, List, [], ◌∷◌, ◌++◌, codes, Bool, true, false, cond, refl, ◌∙◌, append-nil, Option, Some, None, filter, flat_map}
-use Rattle.std.proofs.Common.{length, map, nat_lt}
+use Rattle.std.proofs.Common.{◌≡◌, ℕ, List, [], ◌∷◌, ◌++◌, codes, Bool, true, false, cond, refl, ◌∙◌, append-nil, Option, Some, None, filter, flat_map, length}
+use Rattle.std.proofs.Common.{map, nat_lt}
 use Rattle.{std.specs.List.range_with_len, svg.specs.{Figure.{Figure, figures_of}, declared.shape.ShapeOf.TheVariants.Text}}
-use Rattle.xbar_equip.specs.{Link.Link, declared.link.LinkKind.LinkKind}
-use Rattle.{xbar_equip.specs.declared.{link.LinkKind.TheVariants.{LineLink, Junctor, TrunkLink}, path.Path.Path}, xbar_plan.specs.Tables.Tables}
-use Rattle.xbar_office_drawing.specs.{declared.owned_card.OwnedCard.OwnedCard, CardFace.{card_face, card_words}, Drawing.{count_text, office_with, path_alone}}
-use Rattle.xbar_office_drawing.specs.{Drawn.{is_evidence, path_evidence}, Index.entry, Names.{first_number, line_name, named_line, names}}
-use Rattle.xbar_office_drawing.specs.{Names.{names_after, names_from, trunk_name}, Office.{bundle, fault, fault_in, office, two_frames}}
-use Rattle.xbar_office_drawing.specs.{PathInOffice.{path_dots, path_trails}, Shapes.{blank_card, frame_figures, frame_row, inner_link, shape_figures}}
-use Rattle.xbar_office_drawing.specs.{Switches.{path_card, path_title, switch_face, switches_of}, declared.office.TheConstants.{HEADS, KEY}}
+use Rattle.xbar_equip.specs.{Link.Link, declared.{link.LinkKind.{LinkKind, TheVariants.{LineLink, Junctor, TrunkLink}}, path.Path.Path}}
+use Rattle.{xbar_plan.specs.Tables.Tables, xbar_office_drawing.specs.declared.{owned_card.OwnedCard.OwnedCard, office.TheConstants.{HEADS, KEY}}}
+use Rattle.xbar_office_drawing.specs.{CardFace.{card_face, card_words}, Drawing.{count_text, office_with, path_alone}, Drawn.{is_evidence, path_evidence}}
+use Rattle.xbar_office_drawing.specs.{Index.entry, Names.{first_number, line_name, named_line, names, names_after, names_from, trunk_name}}
+use Rattle.xbar_office_drawing.specs.{Office.{bundle, fault, fault_in, office, two_frames}, PathInOffice.{path_dots, path_trails}, Shapes.blank_card}
+use Rattle.xbar_office_drawing.specs.{Shapes.{frame_figures, frame_row, inner_link, shape_figures}, Switches.{path_card, path_title, switch_face, switches_of}}
 use Rattle.xbar_office_drawing.proofs.Filters.{none_flat, none_in_both, none_map, none_then, told_flat, told_then}
 
 -- ---- the shapes, the office and the names have none of them

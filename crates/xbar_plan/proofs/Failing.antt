@@ -1,5 +1,5 @@
 use Rattle.std.proofs.Common.{◌≡◌, ℕ, zero, suc, Bool, true, false, List, [], ◌∷◌, refl, ap, ◌∙◌, None, Some, IfSome, IsSomeAnd, position, slice_get, not, ◌&&◌}
-use Rattle.{std.specs.List.list_all, xbar_plan.proofs.{Lists.{position-none, position-some}}}
+use Rattle.{std.specs.List.list_all, xbar_plan.proofs.Lists.{position-none, position-some}}
 
 passes : (b : Bool) → not b ≡ false → b ≡ true
 passes true e = refl

@@ -1,5 +1,5 @@
-use Rattle.std.proofs.Common.{◌≡◌, ◌≢◌, ℕ, ◌+◌, ◌<◌, Bool, true, false, List, [], ◌∷◌, ◌++◌, length, get_or, set, take, refl, sym, ◌∙◌, ap, subst, nat_eq}
-use Rattle.std.proofs.Common.{◌||◌, get_or-set_same, get_or-set_other, eqb-true}
+use Rattle.std.proofs.Common.{◌≡◌, ◌≢◌, ℕ, ◌+◌, ◌<◌, Bool, true, false, List, [], ◌∷◌, ◌++◌, length, get_or, set, take, refl, sym, ◌∙◌, ap, subst, nat_eq, ◌||◌}
+use Rattle.std.proofs.Common.{get_or-set_same, get_or-set_other, eqb-true}
 use Rattle.{std.{specs.List.list_any, proofs.lemmas.List.{take_more, Folds.list_any-append}}, xbar_plan.proofs.Repeats.nat_eq-itself}
 
 -- the numbers up to the next one

@@ -119,6 +119,12 @@ member_place-numbers plan lawful place found e =
     let named = member_place-member plan place found e in
     member-numbers plan lawful found.group found.index named.member named.here
 
+-- the same of the member that is found, if one is
+pub member_found : (plan : Tables) → IsLawful plan → (place : TrunkPlace) (found : Option MemberPlace) → found ≡ member_place plan place
+    → IfSome found (λ member. (member.group < 16) × (member.index < 40))
+member_found plan lawful place None is = tt
+member_found plan lawful place (Some member) is = member_place-numbers plan lawful place member (sym is)
+
 pub member_place-place : (plan : Tables) → IsLawful plan → (place : TrunkPlace) (found : MemberPlace) → member_place plan place ≡ Some found
     → IsTrunkPlace place
 member_place-place plan lawful place found e =

@@ -1,9 +1,8 @@
-use Rattle.std.proofs.Common.{◌≡◌, ℕ, zero, suc, ◌+◌, ◌<◌, Bool, true, false, List, [], ◌∷◌, ◌++◌, length, get_or, take, drop, refl, sym, ◌∙◌, ap, take-append-drop}
-use Rattle.std.proofs.Common.{not, ◌||◌, ◌&&◌, cond, nat_eq, eqb-true, eq-eqb, bytes_eq, map, Option, Some, None, IfSome, position, slice_get, arith}
-use Rattle.std.specs.{List.{list_any, position_from}, Option.IsSome}
-use Rattle.std.proofs.lemmas.List.{take_more, length-take, get_or-take, Folds.list_any-append, Quantifiers.position-Some}
-use Rattle.std.proofs.lemmas.{Option.slice_get-get_or, Slice.Eq.bytes_eq-Decides, Iterator.Adapters.position_from-zero}
-use Rattle.xbar_equip.proofs.{Logic.both, Lists.{any_passes, item_in}}
+use Rattle.std.proofs.Common.{◌≡◌, ℕ, zero, suc, ◌+◌, ◌<◌, Bool, true, false, List, [], ◌∷◌, ◌++◌, length, get_or, take, drop, refl, sym, ◌∙◌, ap}
+use Rattle.std.proofs.Common.{take-append-drop, not, ◌||◌, ◌&&◌, nat_eq, eqb-true, eq-eqb, bytes_eq, Option, Some, None, IfSome, position, slice_get, arith}
+use Rattle.std.proofs.Common.{IsSome, length-take, get_or-take}
+use Rattle.std.{specs.List.list_any, proofs.lemmas.{List.{take_more, Folds.list_any-append, Quantifiers.position-Some}, Option.slice_get-get_or}}
+use Rattle.{std.proofs.lemmas.Slice.Eq.bytes_eq-Decides, xbar_equip.proofs.{Logic.both, Lists.{any_passes, item_in}}}
 use Rattle.xbar_plan.{specs.{Lawful.are_distinct, TableFault.IsRepeatIn}, proofs.{Distinct.distinct-left, Lists.position-none}}
 
 -- the tests of two numbers and of two names are exact
@@ -118,11 +117,3 @@ module _ {X : Type 0} (same : X → X → Bool) (is : (x y : X) → same x y ≡
   seen =
       any_passes (λ n. same n x) (take item xs) (get_or (take item xs) earlier x)
       (item_in (take item xs) earlier (get_or (take item xs) earlier x) (slice_get-get_or (take item xs) earlier x place.0)) place.1
-
--- a search among what f gives
-from_map : {X Y : Type 0} (p : Y → Bool) (f : X → Y) (k : ℕ) (xs : List X) → position_from p k (map f xs) ≡ position_from (λ x. p (f x)) k xs
-from_map p f k [] = refl
-from_map p f k (x ∷ xs) = ap (λ rest. cond (p (f x)) (Some k) rest) (from_map p f (k + 1) xs)
-
-pub position_map : {X Y : Type 0} (p : Y → Bool) (f : X → Y) (xs : List X) → position p (map f xs) ≡ position (λ x. p (f x)) xs
-position_map p f xs = position_from-zero p (map f xs) ∙ from_map p f 0 xs ∙ sym (position_from-zero (λ x. p (f x)) xs)

@@ -3,8 +3,8 @@ use Rattle.xbar_plan.specs.Tables.{Tables}
 use Rattle.xbar_plan.specs.Lawful.{fault_in}
 use Rattle.xbar_plan.specs.declared.fault.PlanFault.{PlanFault}
 use Rattle.xbar_plan.specs.declared.fault.PlanFault.TheVariants as fault
-use Rattle.xbar_plan.specs.declared.list.PlanList.{PlanList}
-use Rattle.xbar_plan.specs.declared.list.PlanList.TheVariants.{Groups, Numbers, Codes, Faults}
+use Rattle.xbar_plan.specs.declared.table_fault.PlanList.{PlanList}
+use Rattle.xbar_plan.specs.declared.table_fault.PlanList.TheVariants.{Groups, Numbers, Codes, Faults}
 use Rattle.xbar_plan.specs.declared.table_fault.Repeat.{Repeat}
 use Rattle.xbar_plan.specs.declared.table_fault.TableFault.{TableFault}
 use Rattle.xbar_plan.specs.declared.table_fault.TableFault.TheVariants as found

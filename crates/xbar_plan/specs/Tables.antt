@@ -1,4 +1,4 @@
-use Rattle.std.specs.Prelude.{◌≡◌, ℕ, ◌==◌, Bool, true, false, Option, MatchOption, IfSome, IsSomeAnd, List, find, position, unwrap_or, option_map, option_and_then, slice_get}
+use Rattle.std.specs.Prelude.{◌≡◌, ℕ, ◌==◌, Bool, true, false, Option, Some, MatchOption, IfSome, IsSomeAnd, List, find, position, unwrap_or, option_map, option_and_then, slice_get, ◌<◌, length}
 use Rattle.std.specs.List.{list_any}
 use Rattle.xbar_equip.specs.Len.{Line}
 use Rattle.xbar_equip.specs.Ten.{TrunkPlace}
@@ -34,6 +34,10 @@ lines_of plan number =
 abbrev pub route_of : Tables → ℕ → Option (List ℕ)
 route_of plan code =
     option_map (λ route. route.groups) (find (λ route. route.code == code) plan.routes)
+
+-- the plan has each of these groups
+abbrev pub AreGroups : Tables → List ℕ → Type 0
+AreGroups plan groups = (k group : ℕ) → slice_get groups k ≡ Some group → group < length plan.groups
 
 -- the first item that passes a test, with its index, counted from 0
 abbrev pub first_with : {A : Type 0} → (A → Bool) → List A → Option (ℕ × A)

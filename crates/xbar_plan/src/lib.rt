@@ -5,11 +5,10 @@
 pub use fault::PlanFault;
 pub use group::{Group, GroupKind, Member, MemberPlace};
 pub use lawful::is_name;
-pub use list::PlanList;
 pub use plan::Plan;
 pub use route::Route;
 pub use station::Station;
-pub use table_fault::{Repeat, TableFault};
+pub use table_fault::{PlanList, Repeat, TableFault};
 pub use table_slices::TableSlices;
 
 mod directory;
@@ -18,7 +17,6 @@ mod fault;
 mod group;
 mod lawful;
 pub mod laws;
-mod list;
 mod numbers;
 mod plan;
 mod route;

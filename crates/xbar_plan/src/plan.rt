@@ -1,4 +1,4 @@
-ghost use Rattle.std.specs.Prelude.{◌≡◌, ◌<◌, IfOk, option_copied, length, position};
+ghost use Rattle.std.specs.Prelude.{◌≡◌, ◌<◌, ◌≤◌, IfOk, IfSome, option_copied, length, position};
 ghost use Rattle.xbar_plan.specs.Group.{is_register};
 
 use crate::directory::Directory;
@@ -47,7 +47,7 @@ impl Model for Plan {
 
 impl Plan {
     ghost use Rattle.std.specs.Prelude.{slice_get, Some};
-    ghost use Rattle.xbar_plan.specs.Tables.{Tables, lines_of, route_of, register_group as register_group_of, is_faulty, member_place};
+    ghost use Rattle.xbar_plan.specs.Tables.{AreGroups, Tables, lines_of, route_of, register_group as register_group_of, is_faulty, member_place};
     ghost use Rattle.xbar_plan.specs.TableSlices.{tables_of};
     ghost use Rattle.xbar_plan.specs.Lawful.{IsLawful, IsPlanOf};
     ghost use Rattle.xbar_plan.specs.TableFault.{IsCheckedPlan};
@@ -162,6 +162,7 @@ impl Plan {
     pub fn group(&self, number: u8) -> &Group
         requires { number < length self.now.groups }
         ensures group { slice_get self.now.groups number ≡ Some result.now }
+        ensures members { (0 < length result.now.members) × (length result.now.members ≤ 40) }
         ensures lawful { IsLawful self.now }
     {
         &self.groups[number as usize]
@@ -171,6 +172,7 @@ impl Plan {
     pub fn register_group(&self) -> u8
         ensures group { result ≡ register_group_of self.now }
         ensures range { result < 16 }
+        ensures there { result < length self.now.groups }
         ensures lawful { IsLawful self.now }
     {
         register_position(&self.groups).unwrap_or(0) as u8
@@ -179,6 +181,7 @@ impl Plan {
     /// The member at a trunk place, with its other place, or `None` if there is no member.
     pub fn member_of(&self, place: Ten) -> Option<MemberPlace>
         ensures member { result ≡ member_place self.now place }
+        ensures range { IfSome result (λ found. (found.group < 16) × (found.index < 40)) }
         ensures lawful { IsLawful self.now }
     {
         // Called only for its contract.
@@ -190,6 +193,7 @@ impl Plan {
     /// `None` if the code is not in use.
     pub fn route(&self, code: u16) -> Option<&[u8]>
         ensures route { option_copied result ≡ route_of self.now code }
+        ensures groups { IfSome result (λ groups. AreGroups self.now groups.now) }
         ensures lawful { IsLawful self.now }
     {
         let directory = &self.directory;

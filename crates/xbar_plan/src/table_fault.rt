@@ -1,8 +1,9 @@
+//! Why tables are no plan, and in which of them.
+
 ghost use Rattle.std.specs.Prelude.{◌≡◌};
 ghost use Rattle.xbar_plan.specs.declared.table_fault.TableFault.TheVariants.{Memory};
 
 use crate::fault::PlanFault;
-use crate::list::PlanList;
 use std::alloc::AllocError;
 use xbar_equip::Ten;
 
@@ -120,5 +121,30 @@ impl From<AllocError> for TableFault {
 
     fn from(_error: AllocError) -> Self {
         TableFault::Memory
+    }
+}
+
+/// The four lists of a plan, in the order in which they are checked.
+#[derive(Clone, Copy, Debug, PartialEq, Eq)]
+pub enum PlanList {
+    Groups,
+    Numbers,
+    Codes,
+    Faults,
+}
+
+impl PlanList {
+    ghost use Rattle.xbar_plan.specs.TableFault.{key_of};
+
+    /// The key of the list in a plan's document.
+    pub fn key(self) -> &'static str
+        ensures { result.now ≡ key_of self }
+    {
+        match self {
+            PlanList::Groups => "groups",
+            PlanList::Numbers => "numbers",
+            PlanList::Codes => "codes",
+            PlanList::Faults => "faults",
+        }
     }
 }

@@ -1,5 +1,5 @@
-use Rattle.std.proofs.Common.{◌≡◌, ℕ, Bool, true, false, List, [], ◌∷◌, refl, ◌∙◌, ap, Option, Some, None, Result, Err, option_map}
-use Rattle.std.proofs.Common.{option_and_then, if◌then◌else◌, IsUtf8}
+use Rattle.std.proofs.Common.{◌≡◌, ℕ, Bool, true, false, List, [], ◌∷◌, refl, ◌∙◌, ap, Option, Some, None, Result, Err, option_map, option_and_then}
+use Rattle.std.proofs.Common.{if◌then◌else◌, IsUtf8}
 use Rattle.{std.{specs.Str.is_utf8, proofs.lemmas.Str.{IsUtf8-from_is_utf8, is_utf8-from_IsUtf8}}, toml.specs.{Data.{Members, as_str}, Parse.parse_document}}
 use Rattle.{toml.specs.{View.{view, items_view}, declared.value.Value.Value}, xbar_plan.specs.{Tables.Tables, declared.fault.PlanFault.PlanFault}}
 use Rattle.xbar_plan_text.specs.{Texts.read_all, Document.{document_of, texts_of_items, needs}}

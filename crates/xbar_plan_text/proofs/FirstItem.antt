@@ -1,9 +1,10 @@
-use Rattle.std.proofs.Common.{◌≡◌, ℕ, zero, suc, ◌+◌, ◌<◌, Bool, true, false, cond, List, [], ◌∷◌, ◌++◌, length, map, get_or, take, refl, sym, ◌∙◌, ap, subst, arith, Bor}
-use Rattle.std.proofs.Common.{Option, Some, None, is_none, option_map, option_and_then, slice_get, position, nat_lt, lt-ltb, le-ltb}
-use Rattle.std.proofs.lemmas.{List.{Sums.position_or_len_is, get_or-take, length-map, length-take-le}, Option.{slice_get-map, slice_get-get_or, get_or_from_slice_get}}
-use Rattle.{xbar_plan.specs.{Tables.first_with, declared.list.PlanList.PlanList}, xbar_plan_text.specs.{Texts.read_all, Refusal.{Item, item_at, first_unread, IsMalformed}}}
-use Rattle.xbar_plan_text.{specs.Refusal.IsUnread, proofs.ReadAll.read_more}
-use Rattle.xbar_plan_text.specs.declared.{read.item_error.ItemError.ItemError, refusal.PlanRefusal.PlanRefusal}
+use Rattle.std.proofs.Common.{◌≡◌, ℕ, zero, suc, ◌+◌, ◌<◌, Bool, true, false, cond, List, [], ◌∷◌, ◌++◌, length, map, get_or, take, refl, sym, ◌∙◌, ap, subst}
+use Rattle.std.proofs.Common.{arith, Bor, Option, Some, None, is_none, option_map, option_and_then, slice_get, position, nat_lt, lt-ltb, le-ltb, get_or-take}
+use Rattle.std.proofs.Common.{length-take-le}
+use Rattle.std.proofs.lemmas.{List.{length-map, Sums.position_or_len_is}, Option.{slice_get-map, slice_get-get_or, get_or_from_slice_get}}
+use Rattle.xbar_plan.specs.{Tables.first_with, declared.table_fault.PlanList.PlanList}
+use Rattle.xbar_plan_text.specs.{Texts.read_all, Refusal.{Item, item_at, first_unread, IsMalformed, IsUnread}, declared.read.item_error.ItemError.ItemError}
+use Rattle.xbar_plan_text.{specs.declared.refusal.PlanRefusal.PlanRefusal, proofs.ReadAll.read_more}
 use Rattle.xbar_plan_text.specs.declared.read.item_error.ItemError.TheVariants as error
 use Rattle.xbar_plan_text.specs.declared.refusal.PlanRefusal.TheVariants as refusal
 

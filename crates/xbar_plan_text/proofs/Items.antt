@@ -1,8 +1,8 @@
 use Rattle.std.proofs.Common.{◌≡◌, ℕ, suc, Bool, true, false, if◌then◌else◌, List, [], ◌∷◌, map, length, refl, ap, Option, Some, None, Bor}
-use Rattle.{xbar_equip.specs.Len.Line, xbar_plan_text.specs.Texts.{read_all, member_of, kind_of, name_of, group_of_parts, is_line_count, number_of, line_of}}
-use Rattle.xbar_plan_text.{specs.{Texts.{station_of_parts, code_of, code_entry_of_parts}, declared.read.version.Version.Version}, proofs.ReadAll.read_map}
-use Rattle.{xbar_plan.specs.{Tables.Station, declared.group.{GroupKind.GroupKind, Member.Member}}, xbar_plan_text.specs.Refusal.IsUnread}
-use Rattle.xbar_plan_text.specs.declared.read.item_error.ItemError.{ItemError}
+use Rattle.xbar_equip.specs.Len.{Line}
+use Rattle.xbar_plan_text.specs.Texts.{read_all, member_of, kind_of, name_of, group_of_parts, is_line_count, number_of, line_of, station_of_parts, code_of}
+use Rattle.xbar_plan_text.specs.{Texts.code_entry_of_parts, declared.read.{version.Version.Version, item_error.ItemError.ItemError}, Refusal.IsUnread}
+use Rattle.{xbar_plan_text.proofs.ReadAll.read_map, xbar_plan.specs.{Tables.Station, declared.group.{GroupKind.GroupKind, Member.Member}}}
 use Rattle.xbar_plan_text.specs.declared.read.item_error.ItemError.TheVariants as error
 
 -- a part that can't be read makes the whole unreadable

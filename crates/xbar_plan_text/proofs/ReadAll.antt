@@ -1,5 +1,5 @@
-use Rattle.std.proofs.Common.{◌≡◌, ℕ, ◌+◌, ◌<◌, ◌≤◌, List, [], ◌∷◌, ◌++◌, length, take, drop, get_or, map, refl, sym, ◌∙◌, ap, Option, Some}
-use Rattle.std.proofs.Common.{None, option_map, option_and_then, take_all, take-append-drop}
+use Rattle.std.proofs.Common.{◌≡◌, ℕ, ◌+◌, ◌<◌, ◌≤◌, List, [], ◌∷◌, ◌++◌, length, take, drop, get_or, map, refl, sym, ◌∙◌, ap, Option, Some, None, option_map}
+use Rattle.std.proofs.Common.{option_and_then, take_all, take-append-drop}
 use Rattle.{std.proofs.lemmas.List.take_more, xbar_plan_text.specs.Texts.read_all}
 
 -- items read one by one

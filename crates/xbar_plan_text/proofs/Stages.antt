@@ -1,8 +1,8 @@
 use Rattle.std.proofs.Common.{◌≡◌, ℕ, List, ◌⊎◌, inl, inr, refl, sym, ◌∙◌, ap, subst, Option, Some, None, Result, Ok, Err}
 use Rattle.{toml.specs.Data.{Data, Members}, xbar_plan.specs.{Tables.Tables, TableFault.{IsCheckedPlan, fault_of as fault_of_tables}}}
-use Rattle.xbar_plan.specs.declared.{fault.PlanFault.PlanFault, list.PlanList.PlanList, table_fault.TableFault.TableFault}
-use Rattle.xbar_plan_text.specs.Document.{Four, Entries, unless_faulty, tables_of_entries, version_of, values_of, lists_of, entries_of}
-use Rattle.xbar_plan_text.specs.Document.{plan_of_entries, plan_of_lists, plan_of_values, plan_of_version, plan_of_document, plan_of, document_of}
+use Rattle.xbar_plan.specs.declared.{fault.PlanFault.PlanFault, table_fault.{PlanList.PlanList, TableFault.TableFault}}
+use Rattle.xbar_plan_text.specs.Document.{Four, Entries, unless_faulty, tables_of_entries, version_of, values_of, lists_of, entries_of, plan_of_entries}
+use Rattle.xbar_plan_text.specs.Document.{plan_of_lists, plan_of_values, plan_of_version, plan_of_document, plan_of, document_of}
 use Rattle.xbar_plan_text.specs.Refusal.{Item, IsRefusal, IsToldReading, IsTableReading, IsNotToml, IsNotTexts, IsMalformed, IsOfTables, PointsTo, item_of}
 use Rattle.xbar_plan_text.specs.declared.{read.version.Version.Version, refusal.PlanRefusal.PlanRefusal}
 use Rattle.xbar_plan_text.proofs.{Capped.{capped_tables, same-fault, same-lawful}, Documents.{goes_on, ends}}

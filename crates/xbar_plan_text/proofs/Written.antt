@@ -1,15 +1,15 @@
 use Rattle.std.proofs.Common.{◌≡◌, ℕ, zero, suc, ◌+◌, ◌-◌, ◌*◌, ◌/◌, ◌%◌, ◌<◌, Bool, true, false, List, [], ◌∷◌, ◌++◌, length, map, inl, refl, sym, ◌∙◌, ap}
 use Rattle.std.proofs.Common.{subst, arith, Option, Some, None, option_to_list, flat_map, slice_get, IfSome, IsSomeAnd, position, unwrap_or, bytes_eq, ◌==◌}
 use Rattle.std.proofs.Common.{◌&&◌, not, nat_le, nat_lt, is_some, if◌then◌else◌, ltb-true, lt-ltb, le-leb, eqb-true}
-use Rattle.std.specs.{List.list_all, Char.is_ascii_digit, Bool.beq}
-use Rattle.{std.proofs.lemmas.{List.{Quantifiers.position-Some, Folds.list_all-append}, Slice.Eq.bytes_eq-Decides}, xbar_equip.specs.Digits.digits}
-use Rattle.xbar_equip.specs.{Len.{Line, is_line, line_text}, Ten.{TrunkPlace, is_trunk_place, place_text}, Link.{Link, is_link, link_text}, DirNo.dir_no_text}
-use Rattle.xbar_equip.proofs.{Logic.{both, both_hold}, Ranges.{place_in_range, line_in_range, link_in_range}}
-use Rattle.xbar_plan.specs.{Group.{TrunkGroup, kind_eq, places, is_intra}, Tables.{Station, Route}, Lawful.{is_between, is_name, is_name_character}}
-use Rattle.xbar_plan.specs.{Lawful.{has_its_places, is_well_formed_group, are_distinct, are_names_distinct, group_places}, declared.group.GroupKind.GroupKind}
-use Rattle.xbar_plan.{specs.declared.group.{GroupKind.TheVariants.{Register, Intra, Outgoing}, Member.Member}, proofs.Lists.{position-none, position-some}}
-use Rattle.{xbar_plan.proofs.Distinct.{item_passes, one_giver}, xbar_plan_text.specs.Texts.{parts, onto_first, read_all, line_of, place_of, number_of, code_of}}
-use Rattle.xbar_plan_text.specs.Texts.{fault_of, member_of, kind_of, name_of, group_of, station_of, CodeEntry, code_entry_of, group_number, route_of_entry}
+use Rattle.std.{specs.{List.list_all, Char.is_ascii_digit, Bool.beq}, proofs.lemmas.List.{Quantifiers.position-Some, Folds.list_all-append}}
+use Rattle.{std.proofs.lemmas.Slice.Eq.bytes_eq-Decides, xbar_equip.specs.{Digits.digits, Len.{Line, is_line, line_text}}}
+use Rattle.xbar_equip.{specs.{Ten.{TrunkPlace, is_trunk_place, place_text}, Link.{Link, is_link, link_text}, DirNo.dir_no_text}, proofs.Logic.{both, both_hold}}
+use Rattle.{xbar_equip.proofs.Ranges.{place_in_range, line_in_range, link_in_range}, xbar_plan.specs.Group.{TrunkGroup, kind_eq, places, is_intra}}
+use Rattle.xbar_plan.specs.{Tables.{Station, Route}, Lawful.{is_between, is_name, is_name_character, has_its_places, is_well_formed_group, are_distinct}}
+use Rattle.xbar_plan.specs.{Lawful.{are_names_distinct, group_places}, declared.group.GroupKind.{GroupKind, TheVariants.{Register, Intra, Outgoing}}}
+use Rattle.xbar_plan.{specs.declared.group.Member.Member, proofs.{Lists.{position-none, position-some}, Distinct.{item_passes, one_giver}}}
+use Rattle.{xbar_plan.proofs.Repeats.bytes_eq-itself, xbar_plan_text.specs.Texts.{parts, onto_first, read_all, line_of, place_of, number_of, code_of, fault_of}}
+use Rattle.xbar_plan_text.specs.Texts.{member_of, kind_of, name_of, group_of, station_of, CodeEntry, code_entry_of, group_number, route_of_entry}
 use Rattle.xbar_plan_text.specs.Written.{spaced, kind_text, second_text, member_text, group_text, station_text, name_in, name_at, route_text}
 use Rattle.xbar_plan_text.{specs.declared.read.version.Version.TheVariants.Two, proofs.WhoseText.{lines, places as place_texts, numbers, links, written_reads}}
 
@@ -251,9 +251,6 @@ names_at groups formed (n ∷ ns) all =
     (names_at groups formed ns h.1)
 
 -- if names are distinct, the name of a group is that of no other
-bytes_eq-itself : (name : List ℕ) → bytes_eq name name ≡ true
-bytes_eq-itself name = (bytes_eq-Decides name name).1 refl
-
 as_flat : (groups : List TrunkGroup) → flat_map (λ group. group.name ∷ []) groups ≡ map (λ group. group.name) groups
 as_flat [] = refl
 as_flat (group ∷ groups) = ap (λ (names : List (List ℕ)). group.name ∷ names) (as_flat groups)

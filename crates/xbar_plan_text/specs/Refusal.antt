@@ -5,8 +5,8 @@ use Rattle.xbar_plan.specs.Tables.{Tables, first_with}
 use Rattle.xbar_plan.specs.TableFault.{key_of, fault_of as fault_of_tables}
 use Rattle.xbar_plan.specs.declared.fault.PlanFault.{PlanFault}
 use Rattle.xbar_plan.specs.declared.fault.PlanFault.TheVariants as fault
-use Rattle.xbar_plan.specs.declared.list.PlanList.{PlanList}
-use Rattle.xbar_plan.specs.declared.list.PlanList.TheVariants.{Groups, Numbers, Codes, Faults}
+use Rattle.xbar_plan.specs.declared.table_fault.PlanList.{PlanList}
+use Rattle.xbar_plan.specs.declared.table_fault.PlanList.TheVariants.{Groups, Numbers, Codes, Faults}
 use Rattle.xbar_plan.specs.declared.table_fault.TableFault.{TableFault}
 use Rattle.xbar_plan_text.specs.Texts.{read_all, group_of, station_of, code_entry_of, fault_of as link_of}
 use Rattle.xbar_plan_text.specs.Document.{Four, document_of, version_of, values_of, lists_of}

@@ -1,7 +1,7 @@
 use Rattle.std.proofs.Common.{◌≡◌, ◌<◌, ◌+◌, ℕ, suc, List, [], ◌∷◌, ◌++◌, length, map, take, drop, get_or, set, refl, sym, ap, ◌∙◌, arith, append_assoc}
 use Rattle.std.proofs.Common.{length-take-le}
 use Rattle.{std.proofs.lemmas.List.{get_or_at, take_more, drop_more, set_at}, xbar_office.specs.declared.reply.{Card.Card, Record.Record}}
-use Rattle.xbar_report.specs.{Dealt.{dealt_records, left_of, own_count_of, with_cards}, declared.trouble_line.TroubleLine.TroubleLine}
+use Rattle.xbar_report.specs.{Dealt.{dealt_records, left_of, own_count_of, with_cards}, declared.line.TroubleLine.TroubleLine}
 
 -- one more record takes its cards
 pub dealt_more : (rs : List Record) (r : Record) (cards : List TroubleLine)

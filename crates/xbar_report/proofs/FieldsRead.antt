@@ -2,7 +2,7 @@
 use Rattle.std.proofs.Common.{◌≡◌, ◌∷◌, ◌++◌, ◌∙◌, ℕ, [], List, append_assoc, refl, arith, codes, decimal}
 use Rattle.{xbar_equip.specs.{Link.link_text, TextLines.Lacks}, xbar_office.specs.declared.reply.Record.Record}
 use Rattle.xbar_report.specs.{Parts.{job_kind, job_line, job_dialled}, Ranges.{IsRecord, IsTroubleLine}}
-use Rattle.xbar_report.specs.{Text.{end_fields, job_fields, line_with, record_line, trouble_line}, declared.trouble_line.TroubleLine.TroubleLine}
+use Rattle.xbar_report.specs.{Text.{end_fields, job_fields, line_with, record_line, trouble_line}, declared.line.TroubleLine.TroubleLine}
 use Rattle.xbar_report.proofs.LineFields.{decimal_has_no_comma, job_cut, job_dialled_lacks, job_line_lacks, kind_has_no_comma}
 
 -- a text that begins with three fields is read as these, with the rest after them

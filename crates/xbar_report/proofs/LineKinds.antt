@@ -2,8 +2,8 @@ use Rattle.std.proofs.Common.{◌≡◌, ◌<◌, ◌≤◌, ◌^◌, ◌∙◌,
 use Rattle.std.{specs.{Char.digit_value, Str.Parse.{AllDigits, digits_value}}, proofs.lemmas.Str.Parse.{IsNumeralModel, numerals_by_value, tells_digits}}
 use Rattle.{std.proofs.lemmas.Fmt.{decimal_nonempty, digits_decimal}, xbar_report.specs.{Bare.bare_line, Line.{IsLine, line_text}, Ranges.IsTroubleLine}}
 use Rattle.xbar_report.specs.{Text.{count_line, end_fields, job_fields, line_with, record_line, trouble_line}, declared.line.Line.Line}
-use Rattle.xbar_report.specs.declared.{line.Line.TheVariants.{Record, Trouble, Paths, Closed}, trouble_line.TroubleLine.TroubleLine}
-use Rattle.{xbar_report.proofs.LineFields.line_cut, xbar_equip.specs.TextLines.Lacks, xbar_office.specs.declared.reply.Record.{Record as TheRecord}}
+use Rattle.xbar_report.{specs.declared.line.{Line.TheVariants.{Record, Trouble, Paths, Closed}, TroubleLine.TroubleLine}, proofs.LineFields.line_cut}
+use Rattle.{xbar_equip.specs.TextLines.Lacks, xbar_office.specs.declared.reply.Record.{Record as TheRecord}}
 
 digits_by_value : IsNumeralModel (AllDigits 10) (digits_value 10)
 digits_by_value = numerals_by_value (AllDigits 10) tells_digits

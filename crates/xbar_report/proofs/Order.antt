@@ -1,8 +1,8 @@
 use Rattle.std.proofs.Common.{◌≡◌, ℕ, zero, suc, List, [], ◌∷◌, ◌++◌, map, take, refl, sym, ap, ◌∙◌, Option, Some, None}
 use Rattle.{xbar_office.specs.declared.reply.Record.{Record as TheRecord}, xbar_report.specs.{Bare.bare_line, Draft.{stage_behind, tally_lines}}}
 use Rattle.xbar_report.specs.{Line.{lines_of_sheet, lines_of_counts, next_stage, Stage, AtRecords, AtCards, AtPaths, AtEnd}, Sheet.Sheet}
-use Rattle.xbar_report.specs.declared.{counts.Counts.Counts, draft.Tally.{Tally, TheVariants.{Missing, Begun, Whole}}, line.Line.Line}
-use Rattle.xbar_report.specs.declared.{line.Line.TheVariants.{Record, Trouble, Paths, Closed}, trouble_line.TroubleLine.TroubleLine}
+use Rattle.xbar_report.specs.declared.line.{Counts.Counts, Line.{Line, TheVariants.{Record, Trouble, Paths, Closed}}, TroubleLine.TroubleLine}
+use Rattle.xbar_report.specs.declared.reading.Tally.{Tally, TheVariants.{Missing, Begun, Whole}}
 
 -- the stage after these lines, if each may come
 abbrev pub stage_after : Option Stage → List Line → Option Stage

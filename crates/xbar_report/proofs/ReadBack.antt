@@ -1,11 +1,11 @@
 use Rattle.std.proofs.Common.{◌≡◌, ◌≢◌, ◌+◌, ℕ, List, [], ◌∷◌, ◌++◌, length, map, refl, sym, ap, subst, ◌∙◌, Option, flat_map, slice_get, append-nil}
 use Rattle.{std.proofs.lemmas.List.{nil_from_length, Folds.flat_map-map}, xbar_office.{proofs.AuditedRecords.{never, turn_at}, specs.Audit.IsFirstWrongTurn}}
 use Rattle.{xbar_office.specs.{Legal.HaveTurns, declared.reply.Record.Record}, xbar_report.specs.{Bare.bare_record, Dealt.{dealt_records, left_of}}}
-use Rattle.xbar_report.specs.{Draft.{IsLineFault, IsReadAs}, Line.{line_text, lines_of_sheet}, Sheet.{Sheet, sheet_text, IsSheet, IsReport}}
-use Rattle.xbar_report.specs.{Text.{record_line, trouble_line, count_lines, records_text, troubles_of}, declared.counts.Counts.Counts}
-use Rattle.xbar_report.{specs.declared.report_fault.ReportFault.ReportFault, proofs.Reports.{dealt_lines, dealt_range, dealt_turns, taken_and_left}}
-use Rattle.xbar_report.proofs.{Sheets.{range_of_sheet, sheet_text_is, texts_are, texts_range}, Uniques.{only_sheet, own_dealt, report_range, report_text_is}}
-use Rattle.{xbar_report.proofs.Uniques.sheet_of, xbar_equip.{specs.TextLines.lines, proofs.WholeLines.joined_lines}}
+use Rattle.xbar_report.specs.{Draft.{IsLineFault, IsReadAs}, Line.{line_text, lines_of_sheet}, Sheet.{Sheet, sheet_text, IsSheet, IsReport}, Text.record_line}
+use Rattle.xbar_report.specs.{Text.{trouble_line, count_lines, records_text, troubles_of}, declared.{line.Counts.Counts, report_fault.ReportFault.ReportFault}}
+use Rattle.xbar_report.proofs.{Reports.{dealt_lines, dealt_range, dealt_turns, taken_and_left}, Sheets.{range_of_sheet, sheet_text_is, texts_are, texts_range}}
+use Rattle.{xbar_report.proofs.Uniques.{only_sheet, own_dealt, report_range, report_text_is, sheet_of}, xbar_equip.specs.TextLines.lines}
+use Rattle.xbar_equip.proofs.WholeLines.{joined_lines}
 use Rattle.xbar_report.specs.declared.report_fault.ReportFault.TheVariants as fault
 
 -- what was read is a sheet with this text

@@ -3,7 +3,7 @@ use Rattle.std.proofs.Common.{append_assoc, ◌==◌, flat_map, length-take, tak
 use Rattle.{std.{specs.List.AllByRecursion, proofs.lemmas.List.length-map}, xbar_equip.proofs.Logic.{both, both_hold}}
 use Rattle.{xbar_office.specs.{Legal.HaveTurns, declared.reply.{Card.Card, Record.Record}}, xbar_report.specs.Bare.bare_record}
 use Rattle.xbar_report.specs.{Dealt.{belongs, own_of, own_count_of, with_cards, dealt_records, left_of}, Ranges.{IsCard, IsRecord, IsTroubleLine}}
-use Rattle.xbar_report.{specs.{Text.{trouble_of, troubles_of}, declared.trouble_line.TroubleLine.TroubleLine}, proofs.Sheets.all_take}
+use Rattle.xbar_report.{specs.{Text.{trouble_of, troubles_of}, declared.line.TroubleLine.TroubleLine}, proofs.Sheets.all_take}
 
 -- a card with a record's turn and job number is that record's
 owner_is : (r : Record) (t : TroubleLine) → belongs r t ≡ true → trouble_of r t.card ≡ t

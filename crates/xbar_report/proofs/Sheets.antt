@@ -1,7 +1,7 @@
 use Rattle.std.proofs.Common.{◌≡◌, ℕ, zero, suc, List, [], ◌∷◌, ◌++◌, length, map, take, refl, sym, ap, ◌∙◌, Option, Some, None, IfSome, flat_map, append-nil}
-use Rattle.{std.{specs.List.AllByRecursion, proofs.lemmas.{List.{length-map, Folds.flat_map-map}, Grind.flat_map-append}}, xbar_report.specs.Bare.bare_line}
-use Rattle.xbar_report.specs.{Draft.{AreTextsOf, IsTextOf}, Line.{IsLine, line_text, lines_of_sheet, lines_of_counts}, Ranges.AreCounts, Sheet.Sheet}
-use Rattle.xbar_report.specs.{Sheet.{sheet_text, IsSheet}, Text.{record_line, trouble_line, count_lines}, declared.{counts.Counts.Counts, line.Line.Line}}
+use Rattle.std.{specs.List.AllByRecursion, proofs.lemmas.{List.{length-map, Folds.flat_map-map}, Grind.flat_map-append}}
+use Rattle.xbar_report.specs.{Bare.bare_line, Draft.{AreTextsOf, IsTextOf}, Line.{IsLine, line_text, lines_of_sheet, lines_of_counts}, Ranges.AreCounts}
+use Rattle.xbar_report.specs.{Sheet.{Sheet, sheet_text, IsSheet}, Text.{record_line, trouble_line, count_lines}, declared.line.{Counts.Counts, Line.Line}}
 use Rattle.{xbar_report.{specs.declared.line.Line.TheVariants.{Record, Trouble, Paths, Closed}, proofs.Lines.lines_of_lines}, xbar_equip.specs.TextLines.lines}
 
 -- lists

@@ -3,9 +3,9 @@ use Rattle.std.proofs.Common.{append_assoc, Option, Some, None, append-nil, leng
 use Rattle.std.{specs.List.AllByRecursion, proofs.lemmas.List.{length-map, map-append, take-map}}
 use Rattle.{xbar_office.specs.declared.reply.Record.{Record as TheRecord}, xbar_report.specs.Draft.{AreTextsOf, IsReadAs, IsTextOf, stage_behind, tally_lines}}
 use Rattle.xbar_report.specs.Line.{IsLine, line_text, lines_of_counts, lines_of_sheet, next_stage, Stage, AtRecords, AtPaths}
-use Rattle.xbar_report.specs.{Reading.{HaveSameLines, IsFirstStrayLine}, Sheet.{Sheet, sheet_text, IsSheetText}, declared.counts.Counts.Counts}
-use Rattle.xbar_report.specs.declared.{draft.Tally.{Tally, TheVariants.{Missing, Begun, Whole}}, line.Line.{Line, TheVariants.{Record, Trouble, Closed}}}
-use Rattle.xbar_report.{specs.declared.trouble_line.TroubleLine.TroubleLine, proofs.Order.{next-bare, stage_after, stage_after-append, stage_after-take}}
+use Rattle.xbar_report.specs.{Reading.{HaveSameLines, IsFirstStrayLine}, Sheet.{Sheet, sheet_text, IsSheetText}, declared.line.{Counts.Counts, Line.Line}}
+use Rattle.xbar_report.specs.declared.{line.{Line.TheVariants.{Record, Trouble, Closed}, TroubleLine.TroubleLine}, reading.Tally.{Tally, TheVariants.Missing}}
+use Rattle.xbar_report.{specs.declared.reading.Tally.TheVariants.{Begun, Whole}, proofs.Order.{next-bare, stage_after, stage_after-append, stage_after-take}}
 use Rattle.xbar_report.proofs.{Order.{stage_after-bare, stage_of_lines, stage_of_sheet}, Sheets.{all_append, all_parts, all_take, lines_of_text, sheet_range}}
 use Rattle.xbar_report.proofs.{Sheets.{range_of_sheet, texts_range, texts_are, texts_only, texts_more, texts_count}, Lines.line_text_whole, Splits.has_byte}
 use Rattle.xbar_equip.{specs.TextLines.{IsWholeLine, Lacks, lines}, proofs.WholeLines.{lines_of_nothing, lines_of_rest, whole_line_first}}

@@ -4,11 +4,11 @@ use Rattle.std.{specs.List.AllByRecursion, proofs.lemmas.List.{length-map, map-a
 use Rattle.xbar_office.specs.{Legal.HaveTurns, declared.reply.{Card.Card, Record.{Record as TheRecord}}}
 use Rattle.xbar_report.specs.{Bare.{bare_line, bare_record}, Dealt.{belongs, own_of, own_count_of, dealt_records, left_of}, Draft.{AreTextsOf, IsReadAs}}
 use Rattle.xbar_report.specs.{Line.{IsLine, line_text, lines_of_sheet, lines_of_counts}, Ranges.IsRecord, Reading.{HaveSameLines, IsFirstStrayLine}}
-use Rattle.xbar_report.specs.{Sheet.{Sheet, IsReport, IsReportText}, Text.{records_text, trouble_of, troubles_of}, declared.counts.Counts.Counts}
-use Rattle.xbar_report.specs.declared.{line.Line.{Line, TheVariants.{Record, Trouble, Paths, Closed}}, trouble_line.TroubleLine.TroubleLine}
-use Rattle.xbar_report.proofs.{Deals.length-dealt, Reports.{dealt_lines, own_belongs, own_le, taken_and_left}}
-use Rattle.xbar_report.proofs.{Sheets.{all_take, lines_of_text, sheet_range, texts_are, texts_only}, Uniques.{BeginsOtherwise, later_turns, otherwise}}
-use Rattle.{xbar_report.proofs.Uniques.{own_exact, own_step, regrouped_lines, report_range, report_text_is, sheet_of}, xbar_equip.specs.TextLines.lines}
+use Rattle.xbar_report.specs.{Sheet.{Sheet, IsReport, IsReportText}, Text.{records_text, trouble_of, troubles_of}, declared.line.{Counts.Counts, Line.Line}}
+use Rattle.xbar_report.{specs.declared.line.{Line.TheVariants.{Record, Trouble, Paths, Closed}, TroubleLine.TroubleLine}, proofs.Deals.length-dealt}
+use Rattle.xbar_report.proofs.{Reports.{dealt_lines, own_belongs, own_le, taken_and_left}, Sheets.{all_take, lines_of_text, sheet_range, texts_are, texts_only}}
+use Rattle.xbar_report.proofs.Uniques.{BeginsOtherwise, later_turns, otherwise, own_exact, own_step, regrouped_lines, report_range, report_text_is, sheet_of}
+use Rattle.xbar_equip.specs.TextLines.{lines}
 
 -- lists
 

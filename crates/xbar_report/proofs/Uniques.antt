@@ -4,8 +4,8 @@ use Rattle.std.{specs.List.AllByRecursion, proofs.lemmas.{List.length-map, Grind
 use Rattle.xbar_office.specs.{Legal.HaveTurns, declared.reply.{Card.Card, Record.{Record as TheRecord}}}
 use Rattle.xbar_report.specs.{Bare.{bare_line, bare_record}, Dealt.{belongs, own_of, own_count_of, with_cards, dealt_records, left_of}, Draft.IsReadAs}
 use Rattle.xbar_report.specs.{Line.{lines_of_sheet, lines_of_counts}, Ranges.{IsCard, IsRecord, IsTroubleLine}, Sheet.{Sheet, sheet_text, IsSheet, IsReport}}
-use Rattle.xbar_report.specs.{Text.{record_line, trouble_line, card_lines, count_lines, records_text, trouble_of, troubles_of}, declared.counts.Counts.Counts}
-use Rattle.xbar_report.specs.declared.{line.Line.TheVariants.{Record, Trouble}, trouble_line.TroubleLine.TroubleLine}
+use Rattle.xbar_report.specs.{Text.{record_line, trouble_line, card_lines, count_lines, records_text, trouble_of, troubles_of}, declared.line.Counts.Counts}
+use Rattle.xbar_report.specs.declared.line.{Line.TheVariants.{Record, Trouble}, TroubleLine.TroubleLine}
 use Rattle.{xbar_report.proofs.{Reports.own_belongs, Sheets.{all_append, lines_of_text, sheet_range, texts_only}}, xbar_equip.specs.TextLines.lines}
 
 -- lines that are the same, but for cards of records, are those of the same cards and counts

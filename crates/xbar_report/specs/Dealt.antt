@@ -1,6 +1,6 @@
 use Rattle.std.specs.Prelude.{◌==◌, ◌&&◌, ℕ, zero, suc, Bool, List, [], ◌∷◌, map, take, drop, if◌then◌else◌}
 use Rattle.xbar_office.specs.declared.reply.Record.{Record}
-use Rattle.xbar_report.specs.declared.trouble_line.TroubleLine.{TroubleLine}
+use Rattle.xbar_report.specs.declared.line.TroubleLine.{TroubleLine}
 
 -- whether a card belongs to a record: its line has the record's turn and job number
 abbrev pub belongs : Record → TroubleLine → Bool

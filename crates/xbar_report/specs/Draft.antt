@@ -4,12 +4,12 @@ use Rattle.xbar_report.specs.Line.{IsLine, line_text, lines_of_sheet, Stage, AtR
 use Rattle.xbar_equip.specs.TextLines.{lines}
 use Rattle.xbar_report.specs.Reading.{IsFirstStrayLine}
 use Rattle.xbar_report.specs.Sheet.{Sheet, IsSheetText}
-use Rattle.xbar_report.specs.declared.trouble_line.TroubleLine.{TroubleLine}
+use Rattle.xbar_report.specs.declared.line.TroubleLine.{TroubleLine}
 use Rattle.xbar_report.specs.declared.report_fault.ReportFault.{ReportFault}
 use Rattle.xbar_report.specs.declared.report_fault.ReportFault.TheVariants as fault
-use Rattle.xbar_report.specs.declared.draft.Draft.{Draft}
-use Rattle.xbar_report.specs.declared.draft.Tally.{Tally}
-use Rattle.xbar_report.specs.declared.draft.Tally.TheVariants.{Missing, Begun, Whole}
+use Rattle.xbar_report.specs.declared.reading.Draft.{Draft}
+use Rattle.xbar_report.specs.declared.reading.Tally.{Tally}
+use Rattle.xbar_report.specs.declared.reading.Tally.TheVariants.{Missing, Begun, Whole}
 use Rattle.xbar_report.specs.declared.line.Line.{Line}
 use Rattle.xbar_report.specs.declared.line.Line.TheVariants as line
 

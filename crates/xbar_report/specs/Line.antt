@@ -2,7 +2,7 @@ use Rattle.std.specs.Prelude.{ℕ, ◌<◌, ◌^◌, Option, Some, None, List, [
 use Rattle.xbar_report.specs.Ranges.{IsRecord, IsTroubleLine}
 use Rattle.xbar_report.specs.Text.{record_line, trouble_line, paths_line, closed_line}
 use Rattle.xbar_report.specs.Sheet.{Sheet}
-use Rattle.xbar_report.specs.declared.counts.Counts.{Counts}
+use Rattle.xbar_report.specs.declared.line.Counts.{Counts}
 use Rattle.xbar_report.specs.declared.line.Line.{Line}
 use Rattle.xbar_report.specs.declared.line.Line.TheVariants.{Record, Trouble, Paths, Closed}
 

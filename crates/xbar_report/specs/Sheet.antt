@@ -4,8 +4,8 @@ use Rattle.xbar_office.specs.Legal.{HaveTurns}
 use Rattle.xbar_office.specs.declared.reply.Record.{Record}
 use Rattle.xbar_report.specs.Ranges.{IsRecord, IsTroubleLine, AreCounts}
 use Rattle.xbar_report.specs.Text.{record_line, trouble_line, count_lines, records_text}
-use Rattle.xbar_report.specs.declared.counts.Counts.{Counts}
-use Rattle.xbar_report.specs.declared.trouble_line.TroubleLine.{TroubleLine}
+use Rattle.xbar_report.specs.declared.line.Counts.{Counts}
+use Rattle.xbar_report.specs.declared.line.TroubleLine.{TroubleLine}
 
 -- the contents of the lines of a text, whatever the turns of the records and the owners of the
 -- cards: records, whose own cards aren't shown, then cards, then counts or none

@@ -12,8 +12,8 @@ use Rattle.xbar_office.specs.declared.reply.Card.{Card}
 use Rattle.xbar_office.specs.declared.reply.End.{End}
 use Rattle.xbar_office.specs.declared.reply.End.TheVariants.{DialTone, Connected, Released, CalledBusy, LineBusy, RegistersBusy, TrunksBusy, NoPath, Trouble, VacantCode, VacantNumber, NoRegister, NoCall}
 use Rattle.xbar_office.specs.declared.reply.Record.{Record}
-use Rattle.xbar_report.specs.declared.counts.Counts.{Counts}
-use Rattle.xbar_report.specs.declared.trouble_line.TroubleLine.{TroubleLine}
+use Rattle.xbar_report.specs.declared.line.Counts.{Counts}
+use Rattle.xbar_report.specs.declared.line.TroubleLine.{TroubleLine}
 
 -- fields with commas between them
 abbrev pub fields : List (List ℕ) → List ℕ

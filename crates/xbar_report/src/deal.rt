@@ -3,7 +3,7 @@
 ghost use Rattle.std.specs.Prelude.{◌≡◌, ◌≤◌, length, map};
 ghost use Rattle.xbar_report.specs.Dealt.{belongs as belongs_to, dealt_records, left_of, own_count_of};
 
-use crate::trouble_line::TroubleLine;
+use crate::line::TroubleLine;
 use xbar_office::{Cards, Record};
 
 /// Gives each record its cards, which are in the order of the records. Returns the number of cards

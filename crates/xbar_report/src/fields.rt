@@ -17,12 +17,11 @@ ghost use Rattle.xbar_report.specs.Ranges.{IsCard, IsEnd, IsRecord, IsTroubleLin
 ghost use Rattle.xbar_report.specs.Text.{count_line, end_fields, path_field, record_line, trouble_line};
 ghost use Rattle.xbar_equip.specs.TextLines.{Lacks};
 ghost use Rattle.xbar_report.specs.Parts.{end_first, end_name, end_second, end_trial, job_dialled, job_kind, job_line, plain_ends};
-ghost use Rattle.xbar_report.specs.declared.trouble_line.TroubleLine.{TroubleLine as TheTroubleLine};
+ghost use Rattle.xbar_report.specs.declared.line.TroubleLine.{TroubleLine as TheTroubleLine};
 
-use crate::end_fields::name_of;
-use crate::number::{number, number_u8, number_u16, number_u32};
-use crate::split::{split_at_byte, three_fields};
-use crate::trouble_line::TroubleLine;
+use crate::line::{TroubleLine, name_of};
+use crate::reading::{split_at_byte, three_fields};
+use std::str;
 use xbar_equip::{Channel, Dialled, Len, Link, Path, Ten};
 use xbar_office::{Card, End, Job, Record, Reply};
 
@@ -178,4 +177,35 @@ fn path_of(text: &[u8]) -> Option<Path>
         channel: Channel::parse(channel).ok()?,
         place: Ten::parse(place).ok()?,
     })
+}
+
+/// Reads a number in decimal digits. A plus sign and leading zeros are accepted.
+pub fn number(text: &[u8]) -> Option<u64>
+    ensures { (number : ℕ) → number < 2 ^ 64 → text.now ≡ decimal number → result ≡ Some number }
+{
+    match str::from_utf8(text) {
+        Ok(text) => text.parse().ok(),
+        Err(_) => None,
+    }
+}
+
+/// The same for a number that fits in 32 bits.
+pub fn number_u32(text: &[u8]) -> Option<u32>
+    ensures { (number : ℕ) → number < 2 ^ 32 → text.now ≡ decimal number → result ≡ Some number }
+{
+    number(text)?.try_into().ok()
+}
+
+/// The same for a number that fits in 16 bits.
+pub fn number_u16(text: &[u8]) -> Option<u16>
+    ensures { (number : ℕ) → number < 2 ^ 16 → text.now ≡ decimal number → result ≡ Some number }
+{
+    number(text)?.try_into().ok()
+}
+
+/// The same for a number that fits in 8 bits.
+pub fn number_u8(text: &[u8]) -> Option<u8>
+    ensures { (number : ℕ) → number < 2 ^ 8 → text.now ≡ decimal number → result ≡ Some number }
+{
+    number(text)?.try_into().ok()
 }

@@ -1,12 +1,15 @@
+//! The lines of a report.
+
 ghost use Rattle.std.specs.Prelude.{◌≡◌, ◌≢◌, MatchOption, IfOk, Some, [], IfSome};
+ghost use Rattle.xbar_report.specs.Text.{record_line, trouble_line, end_fields, job_fields, path_field};
+ghost use Rattle.xbar_report.specs.Parts.{end_name};
 
 use crate::fields::{count_of, record_of, trouble_of};
 use crate::ranges::line_is_in_range;
-use crate::record_line::RecordLine;
-use crate::trouble_line::TroubleLine;
 use std::alloc::{AllocError, Global};
 use std::fmt;
-use xbar_office::Record;
+use xbar_equip::Path;
+use xbar_office::{Card, End, Job, Record};
 
 /// A line of a report.
 #[derive(Debug, Drop)]
@@ -72,6 +75,125 @@ impl fmt::Display for Line {
             Line::Trouble(line) => write!(f, "{line}"),
             Line::Paths(paths) => writeln!(f, "PATHS,{paths}"),
             Line::Closed(closed) => writeln!(f, "CLOSED,{closed}"),
+        }
+    }
+}
+
+/// The line of a record, which doesn't show its cards.
+#[derive(Clone, Copy)]
+pub struct RecordLine<'a>(pub &'a Record);
+
+impl fmt::Display for RecordLine<'_> {
+    ghost output = { λ line. Some (record_line line.0.now) };
+
+    fn fmt<W: fmt::Write>(&self, f: &mut fmt::Formatter<W>) -> fmt::Result {
+        let Record {
+            turn,
+            marker,
+            job_no,
+            job,
+            reply,
+        } = self.0;
+        let job = JobFields(job);
+        let end = EndFields(&reply.end);
+        writeln!(f, "{turn},{job_no},{marker},{job},{end}")
+    }
+}
+
+/// A trouble card as in its line, with the turn and the job number of its record.
+#[derive(Clone, Copy, Debug, PartialEq, Eq)]
+pub struct TroubleLine {
+    pub turn: u64,
+    pub job_no: u32,
+    pub card: Card,
+}
+
+impl fmt::Display for TroubleLine {
+    ghost output = { λ line. Some (trouble_line line) };
+
+    fn fmt<W: fmt::Write>(&self, f: &mut fmt::Formatter<W>) -> fmt::Result {
+        let TroubleLine { turn, job_no, card } = self;
+        writeln!(f, "TROUBLE,{turn},{job_no},{},{}", card.trial, card.link)
+    }
+}
+
+/// The numbers of paths and of closed crosspoints at the end of a run.
+#[derive(Clone, Copy, Debug, PartialEq, Eq)]
+pub struct Counts {
+    pub paths: u16,
+    pub closed: u16,
+}
+
+/// The fields of an end: its name, trial, first path, second path.
+#[derive(Clone, Copy)]
+pub struct EndFields<'a>(pub &'a End);
+
+impl fmt::Display for EndFields<'_> {
+    ghost output = { λ fields. Some (end_fields fields.0.now) };
+
+    fn fmt<W: fmt::Write>(&self, f: &mut fmt::Formatter<W>) -> fmt::Result {
+        let name = name_of(self.0);
+        match self.0 {
+            End::DialTone { path, trial } => write!(f, "{name},{trial},{path},-"),
+            End::Connected {
+                calling,
+                called,
+                trial,
+            } => write!(f, "{name},{trial},{calling},{}", PathField(called)),
+            End::Released { own, other } => write!(f, "{name},-,{own},{}", PathField(other)),
+            _ => write!(f, "{name},-,-,-"),
+        }
+    }
+}
+
+/// The name of an end in a record line.
+pub fn name_of(end: &End) -> &'static str
+    ensures { result.now ≡ end_name end.now }
+{
+    match end {
+        End::DialTone { .. } => "DIALTONE",
+        End::Connected { .. } => "CONNECTED",
+        End::Released { .. } => "RELEASED",
+        End::CalledBusy => "CALLEDBUSY",
+        End::LineBusy => "LINEBUSY",
+        End::RegistersBusy => "REGISTERSBUSY",
+        End::TrunksBusy => "TRUNKSBUSY",
+        End::NoPath => "NOPATH",
+        End::Trouble => "TROUBLE",
+        End::VacantCode => "VACANTCODE",
+        End::VacantNumber => "VACANTNUMBER",
+        End::NoRegister => "NOREGISTER",
+        End::NoCall => "NOCALL",
+    }
+}
+
+/// The fields of a job: kind, line, dialled.
+#[derive(Clone, Copy)]
+pub struct JobFields<'a>(pub &'a Job);
+
+impl fmt::Display for JobFields<'_> {
+    ghost output = { λ fields. Some (job_fields fields.0.now) };
+
+    fn fmt<W: fmt::Write>(&self, f: &mut fmt::Formatter<W>) -> fmt::Result {
+        match self.0 {
+            Job::Dial(line) => write!(f, "D,{line},-"),
+            Job::Complete(line, dialled) => write!(f, "C,{line},{dialled}"),
+            Job::Release(line) => write!(f, "R,{line},-"),
+        }
+    }
+}
+
+/// The field of a path; `-` if there is none.
+#[derive(Clone, Copy)]
+pub struct PathField<'a>(pub &'a Option<Path>);
+
+impl fmt::Display for PathField<'_> {
+    ghost output = { λ field. Some (path_field field.0.now) };
+
+    fn fmt<W: fmt::Write>(&self, f: &mut fmt::Formatter<W>) -> fmt::Result {
+        match self.0 {
+            Some(path) => write!(f, "{path}"),
+            None => f.write_str("-"),
         }
     }
 }

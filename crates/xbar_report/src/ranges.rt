@@ -7,8 +7,7 @@ ghost use Rattle.xbar_report.specs.Bare.{bare_line};
 ghost use Rattle.xbar_report.specs.Line.{IsLine};
 ghost use Rattle.xbar_report.specs.Ranges.{IsEnd, IsRecord, IsTroubleLine};
 
-use crate::line::Line;
-use crate::trouble_line::TroubleLine;
+use crate::line::{Line, TroubleLine};
 use xbar_equip::Path;
 use xbar_equip::laws::{link_is_in_range, path_is_in_range};
 use xbar_office::laws::job_is_in_range;

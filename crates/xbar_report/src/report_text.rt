@@ -1,8 +1,7 @@
 ghost use Rattle.std.specs.Prelude.{◌≡◌, ◌++◌, IfOk, OnOk, flat_map, string_bytes};
 ghost use Rattle.xbar_report.specs.Text.{record_line, card_lines, report_text};
 
-use crate::record_line::RecordLine;
-use crate::trouble_line::TroubleLine;
+use crate::line::{RecordLine, TroubleLine};
 use std::alloc::{AllocError, Global};
 use xbar_office::Record;
 

@@ -2,8 +2,8 @@
 use Rattle.std.specs.Prelude.{ℕ, List, [], ◌∷◌, codes, decimal}
 use Rattle.std.specs.List.{concat}
 use Rattle.xbar_jobs.specs.OnWords.{step_word}
-use Rattle.xbar_jobs.specs.declared.step.Step.{Step}
-use Rattle.xbar_jobs.specs.declared.step.Step.TheVariants as step
+use Rattle.xbar_jobs.specs.declared.program.Step.{Step}
+use Rattle.xbar_jobs.specs.declared.program.Step.TheVariants as step
 use Rattle.xbar_step_text.specs.Objects.{act_name, object_of, step_items}
 use Rattle.xbar_step_text.specs.Places.{conn_name, place_name, place_of}
 use Rattle.xbar_step_text.specs.Words.{cleared_by, close_words, open_words}

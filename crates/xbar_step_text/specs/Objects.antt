@@ -6,8 +6,8 @@ use Rattle.xbar_office.specs.declared.reply.Record.{Record}
 use Rattle.xbar_json.specs.Json.{array, quoted}
 use Rattle.xbar_json.specs.Office.{conn_object, job_object, record_object}
 use Rattle.xbar_jobs.specs.OnWords.{step_word}
-use Rattle.xbar_jobs.specs.declared.step.Step.{Step}
-use Rattle.xbar_jobs.specs.declared.step.Step.TheVariants as step
+use Rattle.xbar_jobs.specs.declared.program.Step.{Step}
+use Rattle.xbar_jobs.specs.declared.program.Step.TheVariants as step
 use Rattle.xbar_moves.specs.declared.event.Event.{Event}
 use Rattle.xbar_moves.specs.declared.event.Event.TheVariants as event
 use Rattle.xbar_step_text.specs.Places.{place_of}

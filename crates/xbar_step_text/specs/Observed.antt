@@ -1,6 +1,6 @@
 use Rattle.std.specs.Prelude.{ℕ, List, slice_index}
-use Rattle.xbar_jobs.specs.declared.step.Step.{Step}
-use Rattle.xbar_jobs.specs.declared.step.Step.TheVariants as step
+use Rattle.xbar_jobs.specs.declared.program.Step.{Step}
+use Rattle.xbar_jobs.specs.declared.program.Step.TheVariants as step
 
 -- the value of the word that a step tests or opens; 0 if it does neither
 abbrev pub found_by : List ℕ → Step → ℕ

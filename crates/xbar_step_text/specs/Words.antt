@@ -11,8 +11,8 @@ use Rattle.xbar_office.specs.declared.reply.End.{End}
 use Rattle.xbar_office.specs.declared.reply.End.TheVariants.{DialTone, Connected, Released}
 use Rattle.xbar_office.specs.declared.reply.Record.{Record}
 use Rattle.xbar_report.specs.Parts.{end_name}
-use Rattle.xbar_jobs.specs.declared.step.Step.{Step}
-use Rattle.xbar_jobs.specs.declared.step.Step.TheVariants as step
+use Rattle.xbar_jobs.specs.declared.program.Step.{Step}
+use Rattle.xbar_jobs.specs.declared.program.Step.TheVariants as step
 use Rattle.xbar_moves.specs.declared.event.Event.{Event}
 use Rattle.xbar_moves.specs.declared.event.Event.TheVariants as event
 use Rattle.xbar_step_text.specs.Places.{conn_name, place_name, place_of}

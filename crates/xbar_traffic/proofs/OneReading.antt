@@ -2,7 +2,7 @@ use Rattle.std.proofs.Common.{◌≡◌, ◌⊎◌, ◌++◌, ℕ, Bool, true, f
 use Rattle.std.proofs.lemmas.{Fmt.decimal_injective, List.Elements.{All-cons, All-nil}}
 use Rattle.xbar_traffic.specs.{Row.{IsReadAs, IsRow, hold_letter, mode_of, row_fields}, Traffic.{AreReadAfter, IsJudgedAs, repeats, is_in_rows}}
 use Rattle.xbar_traffic.specs.declared.fault.RowFault.{RowFault, TheVariants.{Unreadable, UnknownKind, Malformed, NumberTwice, Marker, OtherMode}}
-use Rattle.xbar_traffic.specs.declared.{mode.Mode.Mode, row.Row.{Row, TheVariants.{Assign, Steps, Call}}}
+use Rattle.xbar_traffic.specs.declared.row.{Mode.Mode, Row.{Row, TheVariants.{Assign, Steps, Call}}}
 use Rattle.xbar_traffic.proofs.JobFields.{dialled_text_injective, first_same, job_fields_injective, line_text_injective, rest_same}
 
 -- a hold's letter is not the other's

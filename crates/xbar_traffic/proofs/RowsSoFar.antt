@@ -1,7 +1,7 @@
 use Rattle.std.proofs.Common.{◌≡◌, ◌||◌, ℕ, Bool, List, [], ◌∷◌, ◌++◌, Some, None, refl, sym, ap, ◌∙◌, append_assoc, subst, Result, Ok, Err, append-nil}
 use Rattle.{std.proofs.{Math.Bool.or-false, lemmas.List.Folds.list_any-append}, xbar_traffic.specs.Traffic.{AreReadAfter, IsJudgedAs, has_number, repeats}}
 use Rattle.xbar_traffic.specs.{Traffic.is_in_rows, declared.fault.RowFault.{RowFault, TheVariants.{Unreadable, UnknownKind, Malformed, NumberTwice, Marker}}}
-use Rattle.xbar_traffic.specs.declared.{fault.RowFault.TheVariants.OtherMode, mode.Mode.Mode, row.Row.{Row, TheVariants.{Assign, Steps, Call}}}
+use Rattle.xbar_traffic.specs.declared.{fault.RowFault.TheVariants.OtherMode, row.{Mode.Mode, Row.{Row, TheVariants.{Assign, Steps, Call}}}}
 
 -- the numbers of rows, and of one more
 pub is_in_rows-more : (rows : List Row) (row : Row) (number : ℕ) → is_in_rows (rows ++ row ∷ []) number ≡ (is_in_rows rows number || has_number number row)

@@ -1,7 +1,7 @@
 use Rattle.std.proofs.Common.{◌≡◌, ◌∷◌, ◌++◌, [], Bor, true, ℕ, List, refl, sym, subst, ◌∙◌, inl, false, Option, Some, None, Ok, Err}
 use Rattle.csv.specs.Reading.{ReadRecord, Reached, Ready, default_config, is_flexible, reader_config, reader_state, reader_trim, records, source_of, took_first}
 use Rattle.csv.{specs.declared.reader.Reader.Reader, proofs.ReadFacts.{rows-end, rows-more}}
-use Rattle.xbar_traffic.specs.{Traffic.{AreReadAfter, IsJudgedAs, IsTrafficOf, is_in_rows}, declared.{fault.RowFault.RowFault, mode.Mode.Mode, row.Row.Row}}
+use Rattle.xbar_traffic.specs.{Traffic.{AreReadAfter, IsJudgedAs, IsTrafficOf, is_in_rows}, declared.{fault.RowFault.RowFault, row.{Mode.Mode, Row.Row}}}
 use Rattle.xbar_traffic.proofs.{RecordCounts.{records_are, records_begin}, RowsSoFar.{read_more, read_stops}}
 use Rattle.csv.specs.declared.parser.State.TheVariants as st
 use Rattle.csv.specs.declared.reader.Trim.TheVariants as trim

@@ -1,5 +1,5 @@
 use Rattle.std.specs.Prelude.{ℕ, List, [], ◌∷◌}
-use Rattle.xbar_traffic.specs.declared.fields.Fields.{Fields}
+use Rattle.xbar_traffic.specs.declared.row.Fields.{Fields}
 
 -- the five fields, in their order
 abbrev pub five_fields : Fields → List (List ℕ)

@@ -6,9 +6,9 @@ use Rattle.xbar_traffic.specs.Job.{job_fields, is_job_kind}
 use Rattle.xbar_traffic.specs.declared.fault.RowFault.{RowFault}
 use Rattle.xbar_traffic.specs.declared.fault.RowFault.TheVariants.{Unreadable, UnknownKind, Malformed, OtherMode}
 use Rattle.xbar_traffic.specs.declared.row.Row.{Row}
-use Rattle.xbar_traffic.specs.declared.wrong_field.WrongField.{WrongField}
-use Rattle.xbar_traffic.specs.declared.mode.Mode.{Mode}
-use Rattle.xbar_traffic.specs.declared.mode.Mode.TheVariants.{Replay, Live}
+use Rattle.xbar_traffic.specs.declared.fault.WrongField.{WrongField}
+use Rattle.xbar_traffic.specs.declared.row.Mode.{Mode}
+use Rattle.xbar_traffic.specs.declared.row.Mode.TheVariants.{Replay, Live}
 use Rattle.xbar_traffic.specs.declared.row.Row.TheVariants.{Assign, Steps, Call}
 
 -- a row is in range: its numbers, its job, its line and its digits

@@ -3,7 +3,7 @@ use Rattle.std.specs.List.{list_any}
 use Rattle.xbar_traffic.specs.Row.{IsReadAs}
 use Rattle.xbar_traffic.specs.declared.fault.RowFault.{RowFault}
 use Rattle.xbar_traffic.specs.declared.fault.RowFault.TheVariants.{NumberTwice}
-use Rattle.xbar_traffic.specs.declared.mode.Mode.{Mode}
+use Rattle.xbar_traffic.specs.declared.row.Mode.{Mode}
 use Rattle.xbar_traffic.specs.declared.row.Row.{Row}
 use Rattle.xbar_traffic.specs.declared.row.Row.TheVariants.{Assign, Steps, Call}
 

@@ -5,7 +5,7 @@ ghost use Rattle.std.specs.Prelude.{◌≡◌, ◌≤◌, ◌+◌, ℕ, List, Op
 ghost use Rattle.xbar_traffic.specs.Row.{IsRow, mode_of};
 ghost use Rattle.xbar_traffic.specs.Traffic.{IsTrafficOf};
 ghost use Rattle.xbar_traffic.specs.declared.fault.RowFault.{RowFault};
-ghost use Rattle.xbar_traffic.specs.declared.mode.Mode.{Mode};
+ghost use Rattle.xbar_traffic.specs.declared.row.Mode.{Mode};
 ghost use Rattle.xbar_traffic.specs.declared.row.Row.{Row};
 
 /// The records and the mode determine the rows and the fault.

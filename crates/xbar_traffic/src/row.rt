@@ -1,4 +1,6 @@
-ghost use Rattle.std.specs.Prelude.{◌≡◌, ◌≢◌, ◌≤◌, ℕ, Bool, List, [], ◌∷◌, ◌++◌, MatchOption, MatchResult, codes, decimal, length};
+//! Rows of traffic, and how they are read from their fields.
+
+ghost use Rattle.std.specs.Prelude.{◌≡◌, ◌≢◌, ◌≤◌, ℕ, Bool, List, [], ◌∷◌, ◌++◌, MatchOption, MatchResult, codes, decimal, length, ◌<◌, slice_index_or};
 ghost use Rattle.csv.specs.Records.{fields_of};
 ghost use Rattle.xbar_equip.specs.Dialled.{IsDialled, dialled_text};
 ghost use Rattle.xbar_equip.specs.Len.{IsLine, Line, line_text};
@@ -6,14 +8,20 @@ ghost use Rattle.xbar_traffic.specs.Row.{IsRowRead, hold_letter};
 ghost use Rattle.xbar_traffic.specs.Fields.{five_fields};
 ghost use Rattle.xbar_traffic.specs.Job.{IsJobReadAs, is_job_kind as is_kind_of_job};
 
-use crate::fault::RowFault;
-use crate::fields::Fields;
-use crate::mode::Mode;
-use crate::number::read_number;
-use crate::wrong_field::{Expected, WrongField};
+use crate::fault::{Expected, RowFault, WrongField};
+use crate::numbers::read_number;
 use csv::ByteRecord;
 use xbar_equip::{Dialled, Len};
 use xbar_office::Job;
+
+/// What traffic is for.
+#[derive(Clone, Copy, Debug, PartialEq, Eq)]
+pub enum Mode {
+    /// A schedule that is replayed: jobs for markers, and steps of markers.
+    Replay,
+    /// Calls that markers on threads serve.
+    Live,
+}
 
 /// What a row of traffic asks for.
 #[derive(Clone, Copy, Debug, PartialEq, Eq)]
@@ -43,11 +51,6 @@ pub enum Row {
         release: bool,
     },
 }
-
-/// The highest number of a marker that a row may have.
-const MARKER_LIMIT: u32 = 99;
-/// The highest number of a job or a call that a row may have, and the most steps.
-const NUMBER_LIMIT: u32 = 9999;
 
 impl Row {
     /// Reads a record as a row of this mode. Earlier rows aren't considered.
@@ -151,6 +154,11 @@ impl Row {
     }
 }
 
+/// The highest number of a marker that a row may have.
+const MARKER_LIMIT: u32 = 99;
+/// The highest number of a job or a call that a row may have, and the most steps.
+const NUMBER_LIMIT: u32 = 9999;
+
 /// What is said of a row of the other mode.
 const A_CALL: &str = "this is a call of a live office; expected J or S";
 
@@ -251,4 +259,41 @@ fn read_release(text: &[u8]) -> Result<bool, RowFault>
         b"R" => Ok(true),
         _ => Err(RowFault::Malformed),
     }
+}
+
+/// The fields of a row that has five of them.
+#[derive(Clone, Copy)]
+pub struct Fields<'r> {
+    pub first: &'r [u8],
+    pub second: &'r [u8],
+    pub third: &'r [u8],
+    pub fourth: &'r [u8],
+    pub fifth: &'r [u8],
+}
+
+impl<'r> Fields<'r> {
+    /// The fields of a row. None if there aren't exactly five.
+    pub fn of(row: &'r ByteRecord) -> Option<Self>
+        ensures { MatchOption result (length (fields_of row.now) ≢ 5)
+            (λ fields. fields_of row.now ≡ five_fields fields) }
+    {
+        if row.len() != 5 {
+            return None;
+        }
+        Some(Fields {
+            first: field(row, 0),
+            second: field(row, 1),
+            third: field(row, 2),
+            fourth: field(row, 3),
+            fifth: field(row, 4),
+        })
+    }
+}
+
+/// The field at an index.
+fn field(row: &ByteRecord, index: usize) -> &[u8]
+    requires { index < length (fields_of row.now) }
+    ensures { result.now ≡ slice_index_or (fields_of row.now) index [] }
+{
+    row.get(index).unwrap()
 }

@@ -6,9 +6,8 @@ ghost use Rattle.xbar_traffic.specs.Row.{IsRow, mode_of};
 ghost use Rattle.xbar_traffic.specs.Traffic.{IsJudgedAs, IsTrafficOf, has_number};
 
 use crate::fault::{RowFault, TrafficFault};
-use crate::mode::Mode;
 use crate::numbers::Numbers;
-use crate::row::Row;
+use crate::row::{Mode, Row};
 use csv::{ByteRecord, Error, ErrorKind, ReaderBuilder};
 use std::alloc::{AllocError, Global};
 

@@ -1,6 +1,6 @@
 -- what tests found, test by test
 use Rattle.std.proofs.Common.{◌≡◌, ℕ, Bool, true, false, List, [], ◌∷◌, ◌++◌, append_assoc, append-nil, refl, sym, ◌∙◌, ap, ◌||◌, codes, if◌then◌else◌}
-use Rattle.{std.proofs.lemmas.Grind.flat_map-append, xbar_walk.specs.{Rows.{finds, row_found}, declared.tested.Tested.Tested}}
+use Rattle.{std.proofs.lemmas.Grind.flat_map-append, xbar_walk.specs.{Rows.{finds, row_found}, declared.rows.Tested.Tested}}
 use Rattle.xbar_step_text.{specs.Shown.{has_any, listed, shown}, proofs.Listed.{any_on, ends_with_none, ends_with_some, listed_on}}
 
 abbrev closed : List ℕ

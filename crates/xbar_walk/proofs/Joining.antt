@@ -4,7 +4,7 @@ use Rattle.std.proofs.Common.{subst, arith, ◌&&◌, All, flat_map, map, if◌t
 use Rattle.std.{specs.List.AllByRecursion, proofs.lemmas.{List.Elements.All-from_recursion, Grind.flat_map-append}}
 use Rattle.xbar_walk.specs.Items.{IsRun, Item, Says, Tests, before_runs, in_first, item_lines, joins, joins_first, run_lines, runs_of, tests_of, walk_text_of}
 use Rattle.xbar_walk.specs.Rows.{are_joined, goes_on, is_short, last_of, leads, shares_line, row_line, tests_line, tests_text, test_line}
-use Rattle.xbar_walk.specs.declared.{detail.Detail.Detail, tested.Tested.Tested}
+use Rattle.xbar_walk.specs.declared.{detail.Detail.Detail, rows.Tested.Tested}
 
 -- whether an item shares the line of the last of these items
 abbrev pub last_joins : Detail → List Item → Item → Bool

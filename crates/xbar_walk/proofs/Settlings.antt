@@ -1,16 +1,15 @@
 -- how far a settling has come
-use Rattle.std.proofs.Common.{◌≡◌, ℕ, suc, ◌+◌, ◌<◌, Bool, true, false, List, [], ◌∷◌, ◌++◌, length, length-set, refl, sym, ◌∙◌, ap, subst, arith, Option, Some}
-use Rattle.std.proofs.Common.{None, is_some, if◌then◌else◌, slice_get}
-use Rattle.{turns.specs.{Attempt.turn_in, World.{Idle, Does}}, xbar_plan.specs.Tables.Tables, xbar_jobs.specs.Attempt.next_step}
-use Rattle.xbar_moves.specs.{AtWork.{IsBackingAt, withdraws_or_frees, withdraws_or_frees_at, is_turned}, Exchange.{Exchange, Marker, OfPlan, Work, at_marker}}
-use Rattle.xbar_moves.specs.{Exchange.on_job, Moves.{restarted_at, frees_left, given_at, given_back, steps}, Settling.{ended, ended_past_turn, for_each, settled}}
-use Rattle.xbar_moves.proofs.{Backing.{IsBacking, IsGivingUp, starts_back, all_given, back_goes, backing, gave_up, none_given, none_left, one_given}, Jobs.work_at}
-use Rattle.xbar_moves.proofs.Keeping.{restarts_keep, count_back, count_end, count_past, for_each_keeps}
+use Rattle.std.proofs.Common.{◌≡◌, ℕ, suc, ◌+◌, ◌<◌, Bool, false, List, [], ◌∷◌, ◌++◌, length, length-set, refl, sym, ◌∙◌, ap, subst, arith, Option, Some, None}
+use Rattle.std.proofs.Common.{is_some, if◌then◌else◌, slice_get}
+use Rattle.{turns.specs.{Attempt.turn_in, World.{Idle, Does}}, xbar_plan.specs.Tables.Tables}
+use Rattle.xbar_moves.specs.{AtWork.is_turned, Exchange.{Exchange, Marker, OfPlan, Work, at_marker, on_job}}
+use Rattle.xbar_moves.specs.{Moves.{restarted_at, frees_left, given_at, given_back, steps}, Settling.{ended, ended_past_turn, for_each, settled}}
+use Rattle.xbar_moves.proofs.{Backing.back_goes, Keeping.{restarts_keep, count_back, count_end, count_past, for_each_keeps}}
 use Rattle.xbar_walk.specs.{Items.{Item, settling_item}, Observers.{Adds, AgreesWith, ChangesAs}, Parts.{after_part, walk_of_part}}
 use Rattle.xbar_walk.specs.Walks.{Walk, is_past_turn_in, restarted_walk, walk_for_each, walk_of_give_back, walk_of_rollback, walk_of_settling, walk_of_steps}
-use Rattle.xbar_walk.{specs.declared.{detail.Detail.Detail, settling.Part.{Part, TheVariants.{EndPastTurn, GiveBack, End}}}, proofs.ToldSteps.walk_then}
-use Rattle.xbar_moves.specs.declared.given.Given.TheVariants as given
-use Rattle.xbar_moves.specs.declared.given.Given.{Given}
+use Rattle.xbar_walk.specs.declared.{detail.Detail.Detail, settling.Part.{Part, TheVariants.{EndPastTurn, GiveBack, End}}}
+use Rattle.xbar_moves.specs.declared.event.Given.TheVariants as given
+use Rattle.xbar_moves.specs.declared.event.Given.{Given}
 
 -- the office once marker k is brought to its end if it is past its turn
 module _ (plan : Tables) (k : ℕ) (e : Exchange) where
@@ -28,55 +27,6 @@ module _ (plan : Tables) (k : ℕ) (e : Exchange) where
 
   pub past_ended : (past : Bool) → is_past_turn_in e k ≡ past → ended_past_turn plan k e ≡ ended_if past
   past_ended past is = past_of (slice_get e.markers k) ∙ ap ended_if is
-
--- a marker gives up what it holds: it has made some steps, and has so many less to make
-pub record HasGivenUp {O : Type 0} (Describes : O → Detail → ℕ → List Item → Type 0) (first : OfPlan) (observer : O) (now : OfPlan) (observed : O)
-    (k : ℕ) : Type 0 where
-  pub office : IsGivingUp first now k
-  pub made : ℕ
-  pub less : made + frees_left now.exchange k ≡ frees_left first.exchange k
-  pub seen : ChangesAs Describes (walk_of_steps k made) first observer now observed
-
-pub none_up : {O : Type 0} (Describes : O → Detail → ℕ → List Item → Type 0) (first : OfPlan) (observer : O) (k : ℕ)
-    → IsBackingAt (slice_get first.exchange.markers k) → HasGivenUp Describes first observer first observer k
-unfolding walk_of_steps
-none_up Describes first observer k backs = record { office = none_given first k backs; made = 0; less = omega arith; seen = λ w agrees. agrees }
-
-module _ {O : Type 0} (Describes : O → Detail → ℕ → List Item → Type 0) (first now : OfPlan) (observer observed : O) (k : ℕ)
-    (so_far : HasGivenUp Describes first observer now observed k) where
-  module _ (m : Marker) (there : slice_get now.exchange.markers k ≡ Some m) where
-    back : IsBacking now.exchange k
-    back = backing now.exchange k so_far.office.backs
-
-    next_up : withdraws_or_frees (next_step back.attempt) ≡ withdraws_or_frees_at m.work
-    next_up = ap withdraws_or_frees_at (sym (work_at now.exchange k back.number back.attempt m back.at there))
-
-    pub one_up : (next : OfPlan) (more : O) → withdraws_or_frees_at m.work ≡ true → next ≡ record now { exchange = steps now.plan k 1 now.exchange }
-        → ChangesAs Describes (walk_of_steps k 1) now observed next more
-        → HasGivenUp Describes first observer next more k × (frees_left next.exchange k < frees_left now.exchange k)
-    unfolding steps
-    one_up next more goes is changes =
-        let gave = gave_up now.plan now.exchange k back (next_up ∙ goes) in
-        let left = ap (λ (o : OfPlan). frees_left o.exchange k) is in (
-          record {
-            office = one_given first now next k m there so_far.office goes is;
-            made = so_far.made + 1;
-            less = omega (arith, so_far.less, gave.one, left);
-            seen =
-                λ w agrees. subst (AgreesWith Describes next more) (sym (walk_then k so_far.made 1 w))
-                (changes (walk_of_steps k so_far.made w) (so_far.seen w agrees));
-          },
-          omega (arith, gave.one, left),
-        )
-
-    pub all_up : withdraws_or_frees_at m.work ≡ false → (now ≡ record first { exchange = steps first.plan k (frees_left first.exchange k) first.exchange })
-        × ChangesAs Describes (walk_of_steps k (frees_left first.exchange k)) first observer now observed
-    all_up rests =
-        let none = none_left now.plan now.exchange k back (next_up ∙ rests) in
-        let all : so_far.made ≡ frees_left first.exchange k = omega (arith, so_far.less, none) in (
-          all_given first now now k m there so_far.office rests,
-          subst (λ (n : ℕ). ChangesAs Describes (walk_of_steps k n) first observer now observed) all so_far.seen,
-        )
 
 -- giving back, by what marker k answers
 pub given_walk : (k : ℕ) (w : Walk) (what : Given) → given_at w.office.exchange k ≡ what → walk_of_give_back k w ≡ walk_of_rollback what k w
@@ -100,27 +50,24 @@ module _ (o begun : OfPlan) (k : ℕ) (gives : given_at o.exchange k ≡ given.G
       let same = ap (λ (x : OfPlan). length x.exchange.markers) is in
       omega (arith, kept, same, within)
 
-  pub restarted_backs : IsBackingAt (slice_get begun.exchange.markers k)
-  restarted_backs = subst (λ (x : OfPlan). IsBackingAt (slice_get x.exchange.markers k)) (sym is) (starts_back o.plan o.exchange k gives).0
+  module _ (left : ℕ) (all : left ≡ frees_left o.exchange k) where
+    pub gave_back : (last : OfPlan) → last ≡ record begun { exchange = steps begun.plan k left begun.exchange }
+        → last ≡ record o { exchange = given_back o.plan k o.exchange }
+    gave_back last up =
+        up ∙ ap (λ (x : OfPlan). record x { exchange = steps x.plan k left x.exchange }) is
+        ∙ ap (λ (count : ℕ). record o { exchange = steps o.plan k count (restarted_at o.plan k o.exchange) }) all
+        ∙ ap (λ (x : Exchange). record o { exchange = x }) (sym (back_goes o.plan o.exchange k gives))
 
-  pub gave_back : (last : OfPlan) → last ≡ record begun { exchange = steps begun.plan k (frees_left begun.exchange k) begun.exchange }
-      → last ≡ record o { exchange = given_back o.plan k o.exchange }
-  gave_back last up =
-      up ∙ ap (λ (x : OfPlan). record x { exchange = steps x.plan k (frees_left x.exchange k) x.exchange }) is
-      ∙ ap (λ (count : ℕ). record o { exchange = steps o.plan k count (restarted_at o.plan k o.exchange) }) (starts_back o.plan o.exchange k gives).1
-      ∙ ap (λ (x : Exchange). record o { exchange = x }) (sym (back_goes o.plan o.exchange k gives))
-
-  pub sees_back : {O : Type 0} (Describes : O → Detail → ℕ → List Item → Type 0) (last : OfPlan) (observer observed : O)
-      → ChangesAs Describes (walk_of_steps k (frees_left begun.exchange k)) begun observer last observed
-      → ChangesAs Describes (walk_of_give_back k) o observer last observed
-  sees_back Describes last observer observed changes w agrees =
-      let at = agrees.office_is in
-      let restarted_office : begun ≡ (restarted_walk k w).office = is ∙ ap (λ (x : OfPlan). record x { exchange = restarted_at x.plan k x.exchange }) (sym at) in
-      let here : given_at w.office.exchange k ≡ given.Given = ap (λ (x : OfPlan). given_at x.exchange k) at ∙ gives in
-      let count : frees_left begun.exchange k ≡ frees_left w.office.exchange k =
-      ap (λ (x : OfPlan). frees_left x.exchange k) restarted_office ∙ (starts_back w.office.plan w.office.exchange k here).1 in
-      subst (AgreesWith Describes last observed) (ap (λ (n : ℕ). walk_of_steps k n (restarted_walk k w)) count ∙ sym (given_walk k w given.Given here))
-      (changes (restarted_walk k w) (record { office_is = sym restarted_office; described = agrees.described }))
+    pub sees_back : {O : Type 0} (Describes : O → Detail → ℕ → List Item → Type 0) (last : OfPlan) (observer observed : O)
+        → ChangesAs Describes (walk_of_steps k left) begun observer last observed
+        → ChangesAs Describes (walk_of_give_back k) o observer last observed
+    sees_back Describes last observer observed changes w agrees =
+        let at = agrees.office_is in
+        let here : given_at w.office.exchange k ≡ given.Given = ap (λ (x : OfPlan). given_at x.exchange k) at ∙ gives in
+        let restarted_office : begun ≡ (restarted_walk k w).office = is ∙ ap (λ (x : OfPlan). record x { exchange = restarted_at x.plan k x.exchange }) (sym at) in
+        let count : left ≡ frees_left w.office.exchange k = all ∙ ap (λ (x : OfPlan). frees_left x.exchange k) (sym at) in
+        subst (AgreesWith Describes last observed) (ap (λ (n : ℕ). walk_of_steps k n (restarted_walk k w)) count ∙ sym (given_walk k w given.Given here))
+        (changes (restarted_walk k w) (record { office_is = sym restarted_office; described = agrees.described }))
 
 -- as many markers stay
 abbrev pub KeepsCount : (Tables → ℕ → Exchange → Exchange) → Type 0

@@ -1,11 +1,11 @@
 -- the item of an event: a test, or the lines of any other event; or its object
 use Rattle.std.proofs.Common.{◌≡◌, ℕ, true, false, List, ◌++◌, append-nil, refl, sym, ◌∙◌, ap, codes}
-use Rattle.{xbar_office.specs.declared.{job.Job.Job, reply.Record.Record}, xbar_jobs.specs.declared.step.Step.Step}
+use Rattle.{xbar_office.specs.declared.{job.Job.Job, reply.Record.Record}, xbar_jobs.specs.declared.program.Step.Step}
 use Rattle.xbar_step_text.specs.{Lines.{assignment_line, settling_line, step_lines}, Objects.{assignment_object, settling_object, step_object}, Places.place_of}
 use Rattle.xbar_step_text.specs.declared.{observation.Observation.Observation, place.Place.Place}
 use Rattle.xbar_walk.specs.Items.{Item, Says, Tests, after_object, assignment_item, before_object, is_json, item_in, item_of, settling_item, step_item}
 use Rattle.xbar_walk.specs.declared.detail.Detail.{Detail, TheVariants.{Each, Short, JsonLines, JsonList}}
-use Rattle.xbar_jobs.specs.declared.step.Step.TheVariants as step
+use Rattle.xbar_jobs.specs.declared.program.Step.TheVariants as step
 
 -- an object with what is written around it
 abbrev pub framed : Detail → List ℕ → List ℕ

@@ -2,7 +2,7 @@
 use Rattle.std.proofs.Common.{◌≡◌, ℕ, true, false, List, [], ◌∷◌, ◌++◌, append_assoc, append-nil, sym, subst, ◌∙◌, ap, map, string_bytes}
 use Rattle.{std.proofs.lemmas.List.map-append, xbar_walk.specs.Items.{Item, Says, Tests, after_object, before_object, walk_text_of}}
 use Rattle.xbar_walk.specs.{Rows.{are_joined, shares_line, tests_text}, Observers.Adds, Stories.IsStory, declared.{story.Story.Story, detail.Detail.Detail}}
-use Rattle.xbar_walk.{specs.declared.tested.Tested.Tested, proofs.{Joining.{joined_text, leads_by_items, said_between, text_cut}, StepItems.framed}}
+use Rattle.xbar_walk.{specs.declared.rows.Tested.Tested, proofs.{Joining.{joined_text, leads_by_items, said_between, text_cut}, StepItems.framed}}
 
 -- a new story has no items
 pub begins : (story : Story) (detail : Detail) → story.detail ≡ detail → story.number ≡ 0 → string_bytes story.text ≡ [] → story.tests.items ≡ []

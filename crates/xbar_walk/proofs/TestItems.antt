@@ -1,11 +1,11 @@
 -- a test adds no record, so its item is only the test
 use Rattle.std.proofs.Common.{◌≡◌, ℕ, List, [], ◌++◌, append-nil, drop, length, inl, inr, refl, sym, ◌∙◌, ap, arith, slice_index}
 use Rattle.{std.proofs.lemmas.List.drop_all, xbar_plan.specs.Tables.Tables, xbar_office.specs.declared.reply.Record.Record}
-use Rattle.xbar_jobs.specs.{Attempt.next_step, OnWords.{step_answer, step_word}, declared.step.Step.Step}
+use Rattle.xbar_jobs.specs.{Attempt.next_step, OnWords.{step_answer, step_word}, declared.program.Step.Step}
 use Rattle.xbar_moves.{specs.{AtWork.next_step_at, Exchange.{Exchange, at_marker}, Moves.added_record, declared.event.Event.Event}, proofs.StepCases.step_cases}
 use Rattle.xbar_walk.specs.{Items.{item_lines, step_item}, Rows.test_line, Walks.{added_by, next_of, observation_of}, declared.detail.Detail.TheVariants.Each}
 use Rattle.xbar_step_text.specs.{Lines.{marker_line, step_lines}, Words.step_words}
-use Rattle.xbar_jobs.specs.declared.step.Step.TheVariants as step
+use Rattle.xbar_jobs.specs.declared.program.Step.TheVariants as step
 
 no_more : (records : List Record) → drop (length records) records ≡ []
 no_more records = drop_all (length records) records (omega arith)

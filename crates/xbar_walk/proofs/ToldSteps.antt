@@ -1,14 +1,14 @@
 -- what a described step does to an office, and the invariant of loops over described steps
 use Rattle.std.proofs.Common.{◌≡◌, ℕ, zero, suc, ◌+◌, ◌-◌, ◌<◌, ◌≤◌, Bool, true, false, [], ◌∷◌, ◌++◌, drop, length, length-append, refl, sym, ◌∙◌, ap, subst}
 use Rattle.std.proofs.Common.{arith, Option, Some, None, if◌then◌else◌, slice_get}
-use Rattle.{xbar_plan.specs.Tables.Tables, xbar_office.specs.declared.reply.Record.Record, xbar_jobs.specs.declared.step.Step.Step}
+use Rattle.{xbar_plan.specs.Tables.Tables, xbar_office.specs.declared.reply.Record.Record, xbar_jobs.specs.declared.program.Step.Step}
 use Rattle.xbar_moves.specs.{AtWork.{is_turned, next_step_at}, Exchange.{Exchange, Marker, OfPlan, at_marker, is_idle}}
 use Rattle.xbar_moves.{specs.{Moves.{after_step, event_at_step, steps}, Runs.Steps, declared.event.Event.Event}, proofs.Markers.none_within}
 use Rattle.{xbar_moves.proofs.{StepCases.step_count, Stepping.step_idle}, xbar_core.proofs.{GrownRecords.move_begins, Loops.{AreLeft, all_left, some_made}}}
 use Rattle.xbar_walk.specs.{Walks.{Walk, added_by, walk_of_step, is_idle_in, is_past_turn_in, next_of, observation_of, walk_of_steps}, Items.{Item, step_item}}
 use Rattle.xbar_walk.specs.{Observers.{AgreesWith, ChangesAs}, Stories.{AddsStep, IsStory}, declared.story.Story.Story}
 use Rattle.xbar_step_text.specs.{Lines.one_more, Observed.found_by, declared.observation.Observation.Observation}
-use Rattle.xbar_jobs.specs.declared.step.Step.TheVariants as step
+use Rattle.xbar_jobs.specs.declared.program.Step.TheVariants as step
 
 -- the office after marker k's next step
 abbrev pub stepped : ℕ → OfPlan → OfPlan

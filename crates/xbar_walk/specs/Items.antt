@@ -2,15 +2,15 @@
 use Rattle.std.specs.Prelude.{◌≡◌, ℕ, ◌&&◌, ◌⊎◌, Bool, true, false, List, [], ◌∷◌, ◌++◌, codes, flat_map, map, if◌then◌else◌}
 use Rattle.xbar_office.specs.declared.job.Job.{Job}
 use Rattle.xbar_office.specs.declared.reply.Record.{Record}
-use Rattle.xbar_jobs.specs.declared.step.Step.{Step}
-use Rattle.xbar_jobs.specs.declared.step.Step.TheVariants as step
+use Rattle.xbar_jobs.specs.declared.program.Step.{Step}
+use Rattle.xbar_jobs.specs.declared.program.Step.TheVariants as step
 use Rattle.xbar_step_text.specs.Lines.{assignment_line, settling_line, step_lines}
 use Rattle.xbar_step_text.specs.Objects.{assignment_object, settling_object, step_object}
 use Rattle.xbar_step_text.specs.Places.{place_of}
 use Rattle.xbar_walk.specs.Rows.{are_joined, goes_on, is_short, test_line, tests_line}
 use Rattle.xbar_walk.specs.declared.detail.Detail.{Detail}
 use Rattle.xbar_walk.specs.declared.detail.Detail.TheVariants.{Each, Short, JsonLines, JsonList}
-use Rattle.xbar_walk.specs.declared.tested.Tested.{Tested}
+use Rattle.xbar_walk.specs.declared.rows.Tested.{Tested}
 use Rattle.xbar_step_text.specs.declared.observation.Observation.{Observation}
 
 -- an item of a description: a test, which may share its line with others, or lines of its own

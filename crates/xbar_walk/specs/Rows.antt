@@ -9,7 +9,7 @@ use Rattle.xbar_step_text.specs.declared.place.Place.{Place}
 use Rattle.xbar_step_text.specs.declared.place.Place.TheVariants.{LineJunctor, TrunkJunctor}
 use Rattle.xbar_walk.specs.declared.detail.Detail.{Detail}
 use Rattle.xbar_walk.specs.declared.detail.Detail.TheVariants.{Short}
-use Rattle.xbar_walk.specs.declared.tested.Tested.{Tested}
+use Rattle.xbar_walk.specs.declared.rows.Tested.{Tested}
 
 -- whether the second place is the switch after the first in a row: a row is the junctor switches
 -- of one frame

@@ -1,14 +1,14 @@
 use Rattle.std.specs.Prelude.{ℕ, zero, suc, Bool, true, false, List, [], ◌∷◌, ◌++◌, drop, length, slice_get, if◌then◌else◌}
 use Rattle.xbar_plan.specs.Tables.{Tables}
 use Rattle.xbar_office.specs.declared.reply.Record.{Record}
-use Rattle.xbar_jobs.specs.declared.step.Step.{Step}
-use Rattle.xbar_jobs.specs.declared.step.Step.TheVariants as step
+use Rattle.xbar_jobs.specs.declared.program.Step.{Step}
+use Rattle.xbar_jobs.specs.declared.program.Step.TheVariants as step
 use Rattle.xbar_moves.specs.AtWork.{is_turned, next_step_at}
 use Rattle.xbar_moves.specs.Exchange.{Exchange, OfPlan, at_marker, is_idle}
 use Rattle.xbar_moves.specs.Moves.{restarted_at, event_at_step, frees_left, given_at, after_step}
 use Rattle.xbar_moves.specs.Settling.{most_steps_alone}
-use Rattle.xbar_moves.specs.declared.given.Given.{Given}
-use Rattle.xbar_moves.specs.declared.given.Given.TheVariants as given
+use Rattle.xbar_moves.specs.declared.event.Given.{Given}
+use Rattle.xbar_moves.specs.declared.event.Given.TheVariants as given
 use Rattle.xbar_walk.specs.Items.{Item, settling_item, step_item}
 use Rattle.xbar_step_text.specs.Lines.{one_more}
 use Rattle.xbar_step_text.specs.Observed.{found_by}

@@ -9,7 +9,7 @@ ghost use Rattle.xbar_walk.specs.Runs.{last_number, made_by, made_items, made_li
 ghost use Rattle.xbar_walk.specs.Walks.{Walk, walk_of_steps};
 ghost use Rattle.xbar_walk.specs.declared.detail.Detail.{Detail};
 ghost use Rattle.xbar_walk.specs.declared.detail.Detail.TheVariants.{Each, JsonLines};
-ghost use Rattle.xbar_walk.specs.declared.tested.Tested.{Tested};
+ghost use Rattle.xbar_walk.specs.declared.rows.Tested.{Tested};
 
 /// Whatever markers are to step, in whatever order: one item describes each step that is made, in
 /// order, with the next number and the marker. With `Detail::Each` each item is a line, followed

@@ -13,5 +13,4 @@ mod observer;
 mod rows;
 mod settling;
 mod story;
-mod tested;
 mod walk;

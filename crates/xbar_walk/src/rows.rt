@@ -1,11 +1,10 @@
-//! The line that the tests of a row of switches share.
+//! Tests of a row of switches, and the line that they share.
 
 ghost use Rattle.std.specs.Prelude.{◌≡◌, ◌++◌, OnOk, codes, string_bytes, if◌then◌else◌};
-ghost use Rattle.xbar_walk.specs.Rows.{row_found, row_line, test_line, tests_text};
+ghost use Rattle.xbar_walk.specs.Rows.{row_found, row_line, test_line, tests_text, follows as follows_of, goes_on as goes_on_of};
 
-use crate::tested::Tested;
 use std::alloc::AllocError;
-use xbar_step_text::{InFour, PlaceNumbers, add_items, add_test};
+use xbar_step_text::{InFour, Place, PlaceNumbers, add_items, add_test};
 
 /// The text before what a test found: a separator, or the head if nothing was found before.
 fn lead(any: bool) -> &'static str
@@ -83,5 +82,38 @@ pub fn add_tests(text: &mut String, tests: &[Tested]) -> Result<(), AllocError>
         [] => Ok(()),
         [only] => add_one(text, only),
         [first, .., last] => add_row(text, first, last, tests),
+    }
+}
+
+/// A marker's test of a word.
+#[derive(Drop)]
+pub struct Tested {
+    /// The number of the step.
+    pub number: u64,
+    pub marker: u32,
+    pub place: Place,
+    /// The value of the word.
+    pub word: u64,
+}
+
+impl Tested {
+    /// Whether `other` continues the row: the same marker tests the next switch.
+    pub fn goes_on(&self, other: &Tested) -> bool
+        ensures { result ≡ goes_on_of self.now other.now }
+    {
+        self.marker == other.marker && follows(self.place, other.place)
+    }
+}
+
+/// Whether the second place is the switch after the first in a row of junctor switches.
+fn follows(first: Place, second: Place) -> bool
+    ensures { result ≡ follows_of first second }
+{
+    match (first, second) {
+        (Place::LineJunctor(frame, channel), Place::LineJunctor(own, at))
+        | (Place::TrunkJunctor(frame, channel), Place::TrunkJunctor(own, at)) => {
+            own == frame && u16::from(at) == u16::from(channel) + 1
+        }
+        _ => false,
     }
 }

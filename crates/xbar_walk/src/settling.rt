@@ -2,13 +2,12 @@
 
 ghost use Rattle.std.specs.Prelude.{◌≡◌, ◌<◌, ℕ, OnErr, OnOk, Some, length, slice_get, true};
 ghost use Rattle.xbar_core.specs.Ends.{Settles};
-ghost use Rattle.xbar_moves.specs.AtWork.{IsBackingAt};
 ghost use Rattle.xbar_moves.specs.Exchange.{Marker, is_idle};
-ghost use Rattle.xbar_moves.specs.Moves.{frees_left, given_back, steps};
+ghost use Rattle.xbar_moves.specs.Moves.{given_back};
 ghost use Rattle.xbar_moves.specs.Settling.{ended_past_turn, for_each, settled};
 ghost use Rattle.xbar_walk.specs.Observers.{ChangesAs};
 ghost use Rattle.xbar_walk.specs.Parts.{after_part, walk_of_part};
-ghost use Rattle.xbar_walk.specs.Walks.{walk_for_each, walk_of_end_past_turn, walk_of_give_back, walk_of_settling, walk_of_steps};
+ghost use Rattle.xbar_walk.specs.Walks.{walk_for_each, walk_of_end_past_turn, walk_of_give_back, walk_of_settling};
 
 use crate::observer::Observer;
 use std::alloc::AllocError;
@@ -49,30 +48,6 @@ fn end_past_turn<O: Observer>(
     Ok(())
 }
 
-/// Has a marker that was restarted withdraw its request, and free all that it holds.
-fn free_all<O: Observer>(
-    office: &mut Exchange<'_>,
-    marker: u32,
-    observer: &mut O,
-) -> Result<(), AllocError>
-    requires within { marker < length office.old.exchange.markers }
-    requires backs { IsBackingAt (slice_get office.old.exchange.markers marker) }
-    ensures office { OnOk result (office.new ≡ record office.old {
-      exchange =
-          steps office.old.plan marker (frees_left office.old.exchange marker)
-          office.old.exchange;
-    }) }
-    ensures observed { OnOk result (ChangesAs O.Describes
-        (walk_of_steps marker (frees_left office.old.exchange marker))
-        office.old observer.old office.new observer.new) }
-    ensures fails { OnErr result O.MayFail }
-{
-    while office.withdraws_or_frees(marker) {
-        observer.steps(office, marker, 1)?;
-    }
-    Ok(())
-}
-
 /// Has the marker give back all that it holds, unless it is idle or past its turn.
 fn give_back<O: Observer>(
     office: &mut Exchange<'_>,
@@ -90,8 +65,9 @@ fn give_back<O: Observer>(
     let Given::Given = office.given(marker) else {
         return Ok(());
     };
+    let left = office.frees_left(marker);
     office.restart(marker);
-    free_all(office, marker, observer)?;
+    observer.steps(office, marker, left)?;
     Ok(())
 }
 

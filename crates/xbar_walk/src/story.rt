@@ -2,8 +2,7 @@ ghost use Rattle.std.specs.Prelude.{◌≡◌, ◌++◌, IfOk, OnOk, [], string_
 ghost use Rattle.xbar_walk.specs.Rows.{are_joined, shares_line, tests_text};
 
 use crate::detail::Detail;
-use crate::rows::add_tests;
-use crate::tested::Tested;
+use crate::rows::{Tested, add_tests};
 use std::alloc::{AllocError, Global};
 use xbar_jobs::Step;
 use xbar_office::{Job, Record};

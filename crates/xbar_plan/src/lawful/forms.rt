@@ -10,10 +10,9 @@ ghost use Rattle.xbar_plan.specs.TableSlices.{tables_of};
 
 use super::places::places_of;
 use crate::group::Group;
-use crate::list::PlanList;
 use crate::route::Route;
 use crate::station::Station;
-use crate::table_fault::TableFault;
+use crate::table_fault::{PlanList, TableFault};
 use crate::table_slices::TableSlices;
 use std::alloc::Global;
 

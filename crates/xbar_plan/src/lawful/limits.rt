@@ -8,10 +8,9 @@ ghost use Rattle.xbar_plan.specs.TableSlices.{tables_of};
 
 use super::forms::is_between;
 use crate::group::Group;
-use crate::list::PlanList;
 use crate::route::Route;
 use crate::station::Station;
-use crate::table_fault::TableFault;
+use crate::table_fault::{PlanList, TableFault};
 use crate::table_slices::TableSlices;
 
 /// The index of the first group that does not have 1 to 40 members.

@@ -1,7 +1,7 @@
 //! Reads the items of `codes`, and finds the groups that they name.
 
 ghost use Rattle.std.specs.Prelude.{◌≡◌, ◌∷◌, IfOk, map, position, string_bytes, bytes_eq};
-ghost use Rattle.xbar_plan.specs.declared.list.PlanList.TheVariants as PlanList;
+ghost use Rattle.xbar_plan.specs.declared.table_fault.PlanList.TheVariants as PlanList;
 ghost use Rattle.xbar_plan_text.specs.Texts.{read_all, name_of, code_entry_of_parts, code_entry_of, capped_number, capped_route};
 ghost use Rattle.xbar_plan_text.specs.Refusal.{IsListRead, IsReadAs};
 

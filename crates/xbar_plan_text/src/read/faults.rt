@@ -1,7 +1,7 @@
 //! Reads the items of `faults`.
 
 ghost use Rattle.std.specs.Prelude.{map};
-ghost use Rattle.xbar_plan.specs.declared.list.PlanList.TheVariants as PlanList;
+ghost use Rattle.xbar_plan.specs.declared.table_fault.PlanList.TheVariants as PlanList;
 ghost use Rattle.xbar_plan_text.specs.Texts.{fault_of};
 ghost use Rattle.xbar_plan_text.specs.Refusal.{IsListRead};
 

@@ -2,7 +2,7 @@
 
 ghost use Rattle.std.specs.Prelude.{◌≡◌, ◌∷◌, map, string_bytes};
 ghost use Rattle.xbar_plan.specs.declared.group.GroupKind.TheVariants as GroupKind;
-ghost use Rattle.xbar_plan.specs.declared.list.PlanList.TheVariants as PlanList;
+ghost use Rattle.xbar_plan.specs.declared.table_fault.PlanList.TheVariants as PlanList;
 ghost use Rattle.xbar_plan_text.specs.Texts.{read_all, pair_of, member_of as member_of_text, kind_of, name_of, group_of_parts, group_of};
 ghost use Rattle.xbar_plan_text.specs.Refusal.{IsListRead, IsReadAs};
 

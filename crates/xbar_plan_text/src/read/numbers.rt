@@ -1,7 +1,7 @@
 //! Reads the items of `numbers`.
 
 ghost use Rattle.std.specs.Prelude.{◌≡◌, ◌∷◌, map};
-ghost use Rattle.xbar_plan.specs.declared.list.PlanList.TheVariants as PlanList;
+ghost use Rattle.xbar_plan.specs.declared.table_fault.PlanList.TheVariants as PlanList;
 ghost use Rattle.xbar_plan_text.specs.Texts.{read_all, line_of, is_line_count as is_count_of_lines, station_of_parts, station_of};
 ghost use Rattle.xbar_plan_text.specs.Refusal.{IsListRead, IsReadAs};
 

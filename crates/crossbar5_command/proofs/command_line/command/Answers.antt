@@ -2,7 +2,7 @@ use Rattle.std.proofs.Common.{◌≡◌, ◌∙◌, ap, sym, subst, true, List, 
 use Rattle.{std.proofs.lemmas.List.length-map, clap.specs.{Kinds.HasKind, Walk.texts, Words.{App, Text, fault_of, is_simple, is_simple_and_free}}}
 use Rattle.clap.specs.{Words.{subcommand_of, takes}, declared.error.kind.ErrorKind.TheVariants.ArgumentConflict}
 use Rattle.crossbar5_command.specs.{Ask.IsAnswerTo, Fault.{conflict_of, faults_of}, Program.{program, subcommands}, Subcommand.subcommand_named}
-use Rattle.crossbar5_command.specs.declared.{ask.Ask.Ask, command_fault.CommandFault.TheVariants.Memory}
+use Rattle.crossbar5_command.specs.declared.{command_line.Ask.Ask, command_fault.CommandFault.TheVariants.Memory}
 use Rattle.crossbar5_command.proofs.Answered.{answer_among, answer_asked, answer_named, answer_one_form, answer_passes, answer_read, answer_two_forms}
 use Rattle.crossbar5_command.proofs.{Answered.answer_unnamed, FaultKinds.{fault_for-among, fault_for-memory, has_first, of_any_kind, told}}
 use Rattle.crossbar5_command.proofs.{OtherWords.{no_subcommand, subcommand_known}, SubcommandWords.{program_is_free, program_is_simple, words_taken}}

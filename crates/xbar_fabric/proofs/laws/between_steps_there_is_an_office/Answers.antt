@@ -1,5 +1,5 @@
 use Rattle.std.proofs.Common.{ℕ, List, refl, sym, subst, ◌∙◌}
-use Rattle.{turns.specs.World.World, xbar_jobs.specs.Office.office, xbar_moves.specs.{Links.{IsClosed, OpensItsOwn}, declared.kind.Kind.TheVariants.Combined}}
+use Rattle.{turns.specs.World.World, xbar_jobs.specs.Office.office, xbar_moves.specs.{Links.{IsClosed, OpensItsOwn}, declared.kinds.Kind.TheVariants.Combined}}
 use Rattle.xbar_fabric.proofs.Offices.{is_lawful, length-made, office_of}
 use Rattle.xbar_fabric.proofs.laws.between_steps_there_is_an_office.Goals as goal
 

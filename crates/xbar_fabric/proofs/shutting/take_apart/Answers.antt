@@ -1,5 +1,5 @@
 use Rattle.std.proofs.Common.{◌≡◌, ◌++◌, ◌∷◌, [], List, sym, ap, subst, ◌∙◌, arith, append_assoc}
-use Rattle.{xbar_moves.specs.declared.kind.Kind.Kind, xbar_fabric.{specs.Views.{AreBelow, DeskView, RoomDesk, view_at}, proofs.AllDesks.below_more}}
+use Rattle.{xbar_moves.specs.declared.kinds.Kind.Kind, xbar_fabric.{specs.Views.{AreBelow, DeskView, RoomDesk, view_at}, proofs.AllDesks.below_more}}
 use Rattle.xbar_fabric.proofs.shutting.take_apart.Goals as goal
 
 pub loop-desk-preserved : goal.loop-desk-preserved

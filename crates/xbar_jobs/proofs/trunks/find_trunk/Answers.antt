@@ -1,14 +1,14 @@
 use Rattle.std.proofs.Common.{◌≡◌, ℕ, rules, arith, ◌<◌, length, slice_index, None, Ok, Err, sym, ap, subst, ◌∙◌, Option, Result}
 use Rattle.{std.proofs.lemmas.Option.slice_get-get_or, turns.specs.Script.{TestThen, Ends, seize}}
-use Rattle.xbar_equip.specs.{First.first_below, Word.GroupWord, declared.conn.Conn.TheVariants.Group}
-use Rattle.xbar_jobs.specs.{Script.{Wanted, walk_on_words, test}, Trunks.{Trunks, first_clear, is_bit_clear, trunks_of}, declared.trunks.IdleGroup.IdleGroup}
-use Rattle.xbar_jobs.proofs.{WalksOnWords.{came, comes}, TriedGroups.{busy_passed, idle_taken, none_tried, seizing_stops, testing_stops}}
+use Rattle.{xbar_equip.specs.{First.first_below, Word.GroupWord, declared.conn.Conn.TheVariants.Group}, xbar_jobs.specs.Script.{Wanted, walk_on_words, test}}
+use Rattle.xbar_jobs.{specs.{Trunks.{Trunks, first_clear, is_bit_clear, trunks_of}, declared.trunks.IdleGroup.IdleGroup}, proofs.WalksOnWords.{came, comes}}
+use Rattle.{xbar_jobs.proofs.TriedGroups.{busy_passed, idle_taken, none_tried, seizing_stops, testing_stops}, xbar_plan.proofs.LawfulPlans.group_count-range}
 use Rattle.xbar_jobs.proofs.trunks.find_trunk.Goals as goal
 
 pub require_held-requires : goal.require_held-requires
 require_held-requires c =
     let there = c.requires.groups c.loop-group.group-index _ (slice_get-get_or c.args.groups.now c.loop-group.group-index 0 c.loop-group-test.true) in
-    omega (arith, there, c.groups_have_members.ensures.groups c.args.plan.now c.every_plan_is_lawful.ensures)
+    omega (arith, there, group_count-range c.args.plan.now c.every_plan_is_lawful.ensures)
 
 pub returns-in_err-require_held-clause-walk : goal.returns-in_err-require_held-clause-walk
 returns-in_err-require_held-clause-walk c =
@@ -25,7 +25,7 @@ returns-in_err-require_held-clause-walk c =
 pub group_word-requires : goal.group_word-requires
 group_word-requires c =
     let there = c.requires.groups c.loop-group.group-index _ (slice_get-get_or c.args.groups.now c.loop-group.group-index 0 c.loop-group-test.true) in
-    omega (arith, there, c.groups_have_members.ensures.groups c.args.plan.now c.every_plan_is_lawful.ensures)
+    omega (arith, there, group_count-range c.args.plan.now c.every_plan_is_lawful.ensures)
 
 pub returns-in_err-word-clause-walk : goal.returns-in_err-word-clause-walk
 returns-in_err-word-clause-walk c =

@@ -9,6 +9,6 @@ new-requires c =
     found_now (script c.args.plan.now c.args.job.now) c.args.seen.now c.follow.new.seen c.args.words.now c.follow.new.words (Ok c.in_ok-decision.decision)
     come in
     let range =
-    decision_range c.args.plan.now c.follow.new.seen.seen c.args.job.now c.in_ok-decision.decision c.every_plan_is_lawful.ensures c.requires.job
+    decision_range c.args.plan.now c.follow.new.seen.seen c.args.job.now c.in_ok-decision.decision c.requires.plan c.requires.job
     c.fits_words.ensures (sym found) in
     record { effects = range.0; few = range.1 }

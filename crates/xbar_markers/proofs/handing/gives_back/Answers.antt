@@ -1,6 +1,6 @@
 use Rattle.std.proofs.Common.{◌≡◌, ◌≢◌, ◌⊎◌, inl, inr, sym, ◌∙◌}
-use Rattle.{xbar_moves.specs.declared.given.Given.TheVariants.{Given, Idle, PastTurn}, xbar_markers.proofs.HandedJobs.has_given}
-use Rattle.xbar_moves.specs.declared.given.Given as declared
+use Rattle.{xbar_moves.specs.declared.event.Given.TheVariants.{Given, Idle, PastTurn}, xbar_markers.proofs.HandedJobs.has_given}
+use Rattle.xbar_moves.specs.declared.event.Given as declared
 use Rattle.xbar_markers.proofs.handing.gives_back.Goals as goal
 
 -- a desk that is past its turn, or idle, gives nothing back

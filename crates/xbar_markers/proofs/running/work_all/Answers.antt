@@ -1,5 +1,5 @@
 use Rattle.std.proofs.Common.{◌≡◌, ℕ, ◌++◌, List, arith, map, length, take, drop, sym, ap, ◌∙◌, subst, length-take}
-use Rattle.{std.proofs.lemmas.List.Elements.All-same, xbar_moves.specs.declared.kind.Kind.TheVariants.{Completing, Dial}, xbar_fabric.specs.Views.DeskView}
+use Rattle.{std.proofs.lemmas.List.Elements.All-same, xbar_moves.specs.declared.kinds.Kind.TheVariants.{Completing, Dial}, xbar_fabric.specs.Views.DeskView}
 use Rattle.xbar_markers.specs.{ThreadStates.{IsThreadState, IsThere, ThreadState}, declared.worker.Worker.Worker}
 use Rattle.xbar_markers.proofs.DeskRuns.{all_gathered, completers, diallers, first_count, last_count, nobodys_after, there_first, there_next}
 use Rattle.xbar_markers.proofs.running.work_all.Goals as goal

@@ -1,4 +1,4 @@
-use Rattle.{xbar_moves.specs.declared.kind.Kind.TheVariants.Completing, xbar_markers.proofs.Stayed.seat_stayed}
+use Rattle.{xbar_moves.specs.declared.kinds.Kind.TheVariants.Completing, xbar_markers.proofs.Stayed.seat_stayed}
 use Rattle.xbar_markers.proofs.stages.complete_at.Goals as goal
 
 pub returns : goal.returns

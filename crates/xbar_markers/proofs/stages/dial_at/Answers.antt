@@ -1,4 +1,4 @@
-use Rattle.{xbar_moves.specs.declared.kind.Kind.TheVariants.Dial, xbar_markers.proofs.Stayed.seat_stayed}
+use Rattle.{xbar_moves.specs.declared.kinds.Kind.TheVariants.Dial, xbar_markers.proofs.Stayed.seat_stayed}
 use Rattle.xbar_markers.proofs.stages.dial_at.Goals as goal
 
 pub returns : goal.returns

@@ -1,5 +1,5 @@
 use Rattle.std.proofs.Common.{arith}
-use Rattle.{std.proofs.lemmas.Result.IfOk-weaker, xbar_moves.specs.declared.kind.Kind.TheVariants.Dial}
+use Rattle.{std.proofs.lemmas.Result.IfOk-weaker, xbar_moves.specs.declared.kinds.Kind.TheVariants.Dial}
 use Rattle.xbar_markers.{specs.contracts.stages.dial_stage.{G-row, W-row}, proofs.{Sent.{state_or_error_send, state_send}, Stayed.all_stayed}}
 use denote.{Exit.no, Param.Send.{arg_send, param_send}}
 use Rattle.xbar_markers.proofs.stages.dial_stage.Goals as goal

@@ -1,5 +1,5 @@
 use Rattle.std.proofs.Common.{◌≡◌, ◌+◌, ◌++◌, List, All, length, map}
-use Rattle.{xbar_moves.specs.declared.kind.Kind.Kind, xbar_fabric.specs.Views.DeskView}
+use Rattle.{xbar_moves.specs.declared.kinds.Kind.Kind, xbar_fabric.specs.Views.DeskView}
 use Rattle.xbar_markers.specs.{ThreadStates.{AreStatesOf, IsThreadState, desk_at}, Shares.{IsShareOf, MayUse}}
 use Rattle.xbar_markers.proofs.thread_state.gather.Given as goal
 

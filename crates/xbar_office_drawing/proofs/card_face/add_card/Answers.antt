@@ -1,7 +1,6 @@
 use Rattle.std.proofs.Common.{[], ◌∷◌, codes, string_bytes}
-use Rattle.svg.specs.declared.shape.ShapeOf.TheVariants.{Copy, Text}
-use Rattle.xbar_office_drawing.{specs.{CardFace.{card_face, card_words, link_holes, number_entry}}, proofs.Longer.card_joined}
-use Rattle.xbar_office_drawing.specs.declared.card_face.TheConstants.{JOB, MARKER, TRIAL, TURN}
+use Rattle.{svg.specs.declared.shape.ShapeOf.TheVariants.{Copy, Text}, xbar_office_drawing.specs.CardFace.{card_face, card_words, link_holes, number_entry}}
+use Rattle.xbar_office_drawing.{specs.declared.card_face.TheConstants.{JOB, MARKER, TRIAL, TURN}, proofs.Longer.card_joined}
 use Rattle.xbar_office_drawing.proofs.card_face.add_card.Goals as goal
 
 pub returns : goal.returns

@@ -1,5 +1,5 @@
-use Rattle.std.proofs.Common.{◌≡◌, true, None, nat_lt, sym, ◌∙◌, append-nil}
-use Rattle.{std.proofs.lemmas.Bool.lt-ltb, xbar_office_drawing.specs.Names.{first_number, line_name}}
+use Rattle.std.proofs.Common.{◌≡◌, true, None, nat_lt, sym, ◌∙◌, append-nil, lt-ltb}
+use Rattle.xbar_office_drawing.specs.Names.{first_number, line_name}
 use Rattle.xbar_office_drawing.proofs.names.add_line_name.Goals as goal
 
 pub returns-in_ok-add_shape-in-None : goal.returns-in_ok-add_shape-in-None

@@ -1,5 +1,5 @@
 use Rattle.std.proofs.Common.{rules, ◌≡◌, Err, ap, option_and_then}
-use Rattle.xbar_plan_text.specs.{Document.{plan_of}, Refusal.{missing_in, missing_list, malformed_in, malformed_of_document}}
+use Rattle.xbar_plan_text.specs.{Document.plan_of, Refusal.{missing_in, missing_list, malformed_in, malformed_of_document}}
 use Rattle.xbar_plan_text.proofs.Stages.{bytes_refused, bytes_read, not_toml, reading}
 use Rattle.xbar_plan_text.proofs.read.read.Goals as goal
 

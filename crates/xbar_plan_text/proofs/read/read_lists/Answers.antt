@@ -1,9 +1,8 @@
 use Rattle.std.proofs.Common.{rules, ◌≡◌, None, Err, inl, inr, ◌∙◌, List, ℕ, Bor}
 use Rattle.xbar_plan_text.specs.{Texts.{group_of, station_of, code_entry_of, fault_of}, Document.{Four, plan_of_lists}, Refusal.malformed_of_lists}
-use Rattle.xbar_plan_text.proofs.FirstItem.{bytes_of, all_read as none_unread, not_all_read}
-use Rattle.xbar_plan_text.proofs.FourLists.{groups_unread, numbers_unread, codes_unread, faults_unread, all_read}
-use Rattle.xbar_plan_text.proofs.Stages.{lists_refused, lists_read, item_malformed, tables_refused}
-use Rattle.xbar_plan.specs.declared.list.PlanList.TheVariants.{Groups, Numbers, Codes, Faults}
+use Rattle.xbar_plan_text.proofs.{FirstItem.{bytes_of, all_read as none_unread, not_all_read}, FourLists.{groups_unread, numbers_unread, codes_unread}}
+use Rattle.xbar_plan_text.proofs.{FourLists.{faults_unread, all_read}, Stages.{lists_refused, lists_read, item_malformed, tables_refused}}
+use Rattle.xbar_plan.specs.declared.table_fault.PlanList.TheVariants.{Groups, Numbers, Codes, Faults}
 use Rattle.xbar_plan_text.proofs.read.read_lists.Goals as goal
 
 -- the texts of the four lists

@@ -1,5 +1,5 @@
 use Rattle.std.proofs.Common.{◌≡◌, ◌∷◌, ◌∙◌, [], ℕ, arith, Option, Some, None, decimal}
-use Rattle.{xbar_office.specs.declared.reply.Card.Card, xbar_report.specs.{declared.trouble_line.TroubleLine.TroubleLine, Text.line_with}}
+use Rattle.{xbar_office.specs.declared.reply.Card.Card, xbar_report.specs.{declared.line.TroubleLine.TroubleLine, Text.line_with}}
 use Rattle.xbar_report.proofs.{LineFields.{decimal_has_no_comma, line_cut, link_lacks}, FieldsRead.{trouble_of, trouble_read}}
 use Rattle.xbar_equip.specs.Link.{link_text}
 use Rattle.xbar_report.proofs.fields.trouble_of.Goals as goal

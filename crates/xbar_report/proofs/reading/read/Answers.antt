@@ -1,6 +1,6 @@
 use Rattle.std.proofs.Common.{◌≡◌, ◌∙◌, ◌++◌, ℕ, ◌+◌, ◌-◌, List, length, take, drop, inr, sym, ap, subst, arith, Option, take_at}
 use Rattle.{std.proofs.lemmas.Result.err_from_is_err_and, xbar_office.specs.{Legal.HaveTurns, declared.reply.Record.Record}}
-use Rattle.xbar_report.specs.{Dealt.{dealt_records, left_of}, Sheet.Sheet, declared.{counts.Counts.Counts, trouble_line.TroubleLine.TroubleLine}}
+use Rattle.xbar_report.specs.{Dealt.{dealt_records, left_of}, Sheet.Sheet, declared.line.{Counts.Counts, TroubleLine.TroubleLine}}
 use Rattle.xbar_report.proofs.{ReadBack.{read_sheet, dealt_report, dealt_text, report_read, no_wrong_turn, no_line_fault}, StrayCards.{stray_card, left_le}}
 use Rattle.xbar_report.proofs.reading.read.Goals as goal
 

@@ -1,6 +1,6 @@
 use Rattle.std.proofs.Common.{◌≡◌, ◌<◌, ◌⊎◌, ◌+◌, [], ◌∷◌, ℕ, List, false, length, inl, inr, refl, sym, ap, subst, arith, ◌==◌, Some, None, eqb-true}
-use Rattle.xbar_report.specs.{Draft.{tally_lines, stage_behind}, Line.AtPaths, declared.{counts.Counts.Counts, draft.Tally.Tally}}
-use Rattle.xbar_report.specs.declared.{draft.Tally.TheVariants.{Missing, Begun, Whole}, line.Line.Line, trouble_line.TroubleLine.TroubleLine}
+use Rattle.xbar_report.specs.{Draft.{tally_lines, stage_behind}, Line.AtPaths, declared.line.{Counts.Counts, Line.Line, TroubleLine.TroubleLine}}
+use Rattle.xbar_report.specs.declared.reading.Tally.{Tally, TheVariants.{Missing, Begun, Whole}}
 use Rattle.xbar_report.proofs.Stray.{IsReadSoFar, line_more, stray_read, stray_unread, stray_end, read_all}
 use Rattle.xbar_report.proofs.reading.read_lines.Goals.{in_default-tally-via-in-Missing+else-is_empty, in_default-tally-via-in-Whole+else-is_empty-2}
 use Rattle.xbar_report.proofs.reading.read_lines.Goals.{in_default-tally-via-in_default-tally}

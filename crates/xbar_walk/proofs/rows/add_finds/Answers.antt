@@ -1,5 +1,5 @@
 use Rattle.std.proofs.Common.{◌≡◌, [], ◌∷◌, ◌++◌, Bool, List, get_or, take, sym, ap, subst, ◌∙◌, ◌||◌, string_bytes, take_all}
-use Rattle.{std.proofs.lemmas.List.take_more, xbar_walk.{specs.{Rows.row_found, declared.tested.Tested.Tested}, proofs.Finding.{AreFound, none_found}}}
+use Rattle.{std.proofs.lemmas.List.take_more, xbar_walk.{specs.{Rows.row_found, declared.rows.Tested.Tested}, proofs.Finding.{AreFound, none_found}}}
 use Rattle.{xbar_walk.proofs.Finding.{nothing_found, one_found, some_found}, xbar_step_text.specs.declared.place.Place.TheVariants.LineSwitch}
 use Rattle.xbar_walk.proofs.rows.add_finds.Goals.{then-any, else-any}
 use Rattle.xbar_walk.proofs.rows.add_finds.Goals as goal

@@ -1,5 +1,5 @@
 use Rattle.std.proofs.Common.{ℕ, sym, ◌∙◌, ap}
-use Rattle.xbar_moves.{specs.{Exchange.{Exchange, OfPlan}, Moves.{restarted_at, frees_left, steps}}, proofs.Backing.{starts_back, back_goes, back_rests}}
+use Rattle.xbar_moves.{specs.{Exchange.{Exchange, OfPlan}, Moves.{restarted_at, steps}}, proofs.Backing.{back_goes, back_rests}}
 use Rattle.xbar_core.proofs.exchange.Exchange.give_back.Goals as goal
 
 pub returns-in-Given-clause-back : goal.returns-in-Given-clause-back
@@ -7,11 +7,10 @@ returns-in-Given-clause-back c =
     let plan = c.args.self.now.plan in
     let e = c.args.self.now.exchange in
     let k = c.args.marker in
-    let gives = sym c.in-Given.ensures in
-    c.free_all.ensures
-    ∙ ap (λ (o : OfPlan). record { plan = o.plan; exchange = steps o.plan k (frees_left o.exchange k) o.exchange }) c.restart.ensures
-    ∙ ap (λ (count : ℕ). record { plan = plan; exchange = steps plan k count (restarted_at plan k e) }) (starts_back plan e k gives).1
-    ∙ ap (λ (x : Exchange). record { plan = plan; exchange = x }) (sym (back_goes plan e k gives))
+    c.steps.ensures
+    ∙ ap (λ (o : OfPlan). record { plan = o.plan; exchange = steps o.plan k c.frees_left-left.result o.exchange }) c.restart.ensures
+    ∙ ap (λ (count : ℕ). record { plan = plan; exchange = steps plan k count (restarted_at plan k e) }) c.frees_left-left.ensures
+    ∙ ap (λ (x : Exchange). record { plan = plan; exchange = x }) (sym (back_goes plan e k (sym c.in-Given.ensures)))
 
 pub returns-in_default-clause-back : goal.returns-in_default-clause-back
 returns-in_default-clause-back c =

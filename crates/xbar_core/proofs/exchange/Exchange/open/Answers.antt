@@ -1,5 +1,5 @@
 use Rattle.std.proofs.Common.{◌≡◌, ◌∙◌, ◌≤◌, List, ap, arith, length, subst, sym}
-use Rattle.{xbar_moves.specs.{Exchange.{Exchange, fresh_exchange}, declared.kind.Kind.Kind}, xbar_core.specs.Standing.{HasRoom, IsExchange}}
+use Rattle.{xbar_moves.specs.{Exchange.{Exchange, fresh_exchange}, declared.kinds.Kind.Kind}, xbar_core.specs.Standing.{HasRoom, IsExchange}}
 use Rattle.xbar_core.proofs.Kept.{kept_opened, none_waits}
 use Rattle.xbar_core.proofs.exchange.Exchange.open.Goals as goal
 

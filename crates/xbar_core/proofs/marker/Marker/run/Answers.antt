@@ -16,9 +16,8 @@ returns-clause-steps c = λ markers records there.
           ∙ ap (λ (n : ℕ). steps c.args.plan.now k n e) (sym w.result-is)
       | in-Some w ↦
           (λ i. record { words = w.words-is i; markers = slice_set markers k (seen (w.self-inside-is i)); records = records })
-          ∙ marker_led c.args.plan.now k e c.args.self.now c.self.inside.kind w.in-Some.work.job_no w.run.new.self.job_no w.in-Some.work.program.attempt
-          w.run.new.self.program.attempt w.run.new.words w.run.result there
-          (sym c.self.view_is ∙ ap (λ (o : Option Work). record { kind = c.self.inside.kind; work = work_of o }) w.in-Some.is) w.run.ensures.job
-          w.run.ensures.steps
+          ∙ marker_led c.args.plan.now k e c.args.self.now c.self.inside.kind w.in-Some.work.job_no w.in-Some.work.program.attempt
+          w.run.new.self.attempt w.run.new.words w.run.result there
+          (sym c.self.view_is ∙ ap (λ (o : Option Work). record { kind = c.self.inside.kind; work = work_of o }) w.in-Some.is) w.run.ensures.steps
           ∙ ap (λ (n : ℕ). steps c.args.plan.now k n e) (sym w.result-is)
     ]

@@ -1,6 +1,6 @@
 use Rattle.std.proofs.Common.{◌≡◌, sym, ap, ◌∙◌}
 use Rattle.{xbar_moves.specs.Moves.given_by, xbar_fabric.{specs.Advances.MarkerHasGivenBack, proofs.{GivenBack.gives_back, Steps.as_seen}}}
-use Rattle.xbar_moves.specs.declared.given.Given.TheVariants as given
+use Rattle.xbar_moves.specs.declared.event.Given.TheVariants as given
 use Rattle.xbar_fabric.proofs.desk.Desk.give_back.Goals as goal
 
 pub returns-in-Given-clause-back : goal.returns-in-Given-clause-back

@@ -9,15 +9,15 @@ returns-clause-answered c =
     let plan = c.fabric.inside.plan.now in
     let kind = c.self.inside.kind in
     let desk = c.self.inside.desk in
-    let after = c.step-answer.new.self in
+    let after = c.step.new.self in
     let setting : c.self.inside.desk.setting ≡ c.fabric.inside.plan.now =
     ap (λ d. d.plan) c.self.view_is ∙ c.requires.plan_is ∙ sym (ap (λ f. f.plan) c.fabric.view_is) in
-    let still : c.step-answer.new.self.setting ≡ c.fabric.inside.plan.now = ap (λ d. d.setting) c.step-answer.ensures.same ∙ setting in
-    let legal = subst (λ (p : Tables). IsLegal (office p) 0 (office p).opening after.seen) still c.number-number.ensures.legal in
+    let still : c.step.new.self.setting ≡ c.fabric.inside.plan.now = ap (λ d. d.setting) c.step.ensures.same ∙ setting in
+    let legal = subst (λ (p : Tables). IsLegal (office p) 0 (office p).opening after.seen) still c.step.ensures.legal in
     let ends =
-    subst (λ (k : ℕ). IfSome c.step-answer.result (λ answer. desks.HasEndedIn (office plan) after.seen k after.actor))
-    (ap (λ d. d.number) c.step-answer.ensures.same) c.step-answer.ensures.ended in
-    as_seen (λ (old new : DeskView). IsAnswered old new c.step-answer.result) plan kind desk after c.args.self.now setting c.step-answer.ensures.same
+    subst (λ (k : ℕ). IfSome c.step.result (λ answer. desks.HasEndedIn (office plan) after.seen k after.actor))
+    (ap (λ d. d.number) c.step.ensures.same) c.step.ensures.ended in
+    as_seen (λ (old new : DeskView). IsAnswered old new c.step.result) plan kind desk after c.args.self.now setting c.step.ensures.same
     c.self.view_is
     (has_answered plan desk.table kind desk.number desk.actor after.actor desk.seen after.seen c.fabric.invariant.2 legal _
-    (λ same. (ap (λ d. d.actor) same, ap (λ d. d.seen) same)) c.step-answer.result c.step-answer.ensures.none c.step-answer.ensures.stepped ends)
+    (λ same. (ap (λ d. d.actor) same, ap (λ d. d.seen) same)) c.step.result c.step.ensures.none c.step.ensures.stepped ends)

@@ -1,5 +1,5 @@
 use Rattle.std.proofs.Common.{◌∙◌, None, ap, subst, sym, true≢false}
-use Rattle.{xbar_office.specs.declared.job.Job.TheVariants.Complete, xbar_moves.specs.{Kinds.takes, declared.kind.Kind.Kind}, xbar_fabric.specs.Views.DeskView}
+use Rattle.{xbar_office.specs.declared.job.Job.TheVariants.Complete, xbar_moves.specs.{Kinds.takes, declared.kinds.Kind.Kind}, xbar_fabric.specs.Views.DeskView}
 use Rattle.xbar_markers.specs.{Calls.HasDialTone, declared.call_records.CallRecords.CallRecords}
 use Rattle.xbar_markers.proofs.CompletedCalls.{completed_alone, completed_released, ready_learned}
 use Rattle.xbar_markers.proofs.completing.Worker+Desk+G.complete.Goals.{then-call+then-is_connected, else-call, else-call-via-then-call+else-is_connected}

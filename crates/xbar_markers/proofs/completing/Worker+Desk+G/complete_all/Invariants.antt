@@ -1,5 +1,5 @@
 use Rattle.std.proofs.Common.{◌≡◌}
-use Rattle.{xbar_moves.specs.declared.kind.Kind.TheVariants.Completing, xbar_markers.specs.{Shares.{HasServed, HasTickets, MayUse}, Work.IsReady}}
+use Rattle.{xbar_moves.specs.declared.kinds.Kind.TheVariants.Completing, xbar_markers.specs.{Shares.{HasServed, HasTickets, MayUse}, Work.IsReady}}
 use Rattle.xbar_markers.proofs.completing.Worker+Desk+G.complete_all.Given as goal
 
 abbrev pub invariant-loop : goal.invariant-loop

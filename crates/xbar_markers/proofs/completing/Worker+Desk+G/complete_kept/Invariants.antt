@@ -1,5 +1,5 @@
 use Rattle.std.proofs.Common.{◌≡◌, All, length}
-use Rattle.{xbar_moves.specs.declared.kind.Kind.TheVariants.Completing, xbar_markers.specs.{Calls.HasDialTone, Shares.HasServed, Work.IsReady}}
+use Rattle.{xbar_moves.specs.declared.kinds.Kind.TheVariants.Completing, xbar_markers.specs.{Calls.HasDialTone, Shares.HasServed, Work.IsReady}}
 use Rattle.xbar_markers.proofs.completing.Worker+Desk+G.complete_kept.Given as goal
 
 abbrev pub invariant-loop-call : goal.invariant-loop-call

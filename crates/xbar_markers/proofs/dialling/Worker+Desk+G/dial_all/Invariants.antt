@@ -1,5 +1,5 @@
 use Rattle.std.proofs.Common.{◌≡◌}
-use Rattle.{xbar_moves.specs.declared.kind.Kind.TheVariants.Dial, xbar_markers.specs.{Shares.{HasServed, HasTickets, MayUse}, Work.IsReady}}
+use Rattle.{xbar_moves.specs.declared.kinds.Kind.TheVariants.Dial, xbar_markers.specs.{Shares.{HasServed, HasTickets, MayUse}, Work.IsReady}}
 use Rattle.xbar_markers.proofs.dialling.Worker+Desk+G.dial_all.Given as goal
 
 abbrev pub invariant-loop : goal.invariant-loop

@@ -1,6 +1,6 @@
 use Rattle.std.proofs.Common.{rules, ◌<◌, ◌≡◌, ℕ, true, false, length, take, get_or, sym, ◌∙◌, ap, arith, nat_eq, length-set, Some, is_some, position}
-use Rattle.{std.{specs.List.list_any, proofs.lemmas.{List.get_or_read, Grind.get_or_default_zero}}, xbar_plan.{proofs.Marks.marks_more}}
-use Rattle.xbar_plan.proofs.Repeats.{nat_eq-is, nat_eq-itself, nat_eq-turned, some_position, repeats, apart_more, twice}
+use Rattle.std.{specs.List.list_any, proofs.lemmas.{List.get_or_read, Grind.get_or_default_zero}}
+use Rattle.xbar_plan.proofs.{Marks.marks_more, Repeats.{nat_eq-is, nat_eq-itself, nat_eq-turned, some_position, repeats, apart_more, twice}}
 use Rattle.xbar_plan.proofs.lawful.distinct.first_repeat.Goals as goal
 
 pub unwrap-earlier-requires : goal.unwrap-earlier-requires

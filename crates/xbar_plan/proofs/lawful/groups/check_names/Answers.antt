@@ -1,6 +1,6 @@
 use Rattle.std.proofs.Common.{◌<◌, ◌≡◌, List, ℕ, map, take, get_or, length, inr, refl, sym, ◌∙◌, ap, Some, None, bytes_eq, position, arith}
-use Rattle.{std.{proofs.lemmas.List.{take-map, length-map, get_or-map}}, xbar_plan.specs.{Group.TrunkGroup}}
-use Rattle.xbar_plan.proofs.Repeats.{bytes_eq-is, bytes_eq-itself, bytes_eq-turned, repeats, seen, no_position, position_map, apart_more, twice}
+use Rattle.{std.proofs.lemmas.List.{take-map, length-map, get_or-map}, xbar_plan.specs.Group.TrunkGroup}
+use Rattle.xbar_plan.proofs.{FirstPlaces.position-map, Repeats.{bytes_eq-is, bytes_eq-itself, bytes_eq-turned, repeats, seen, no_position, apart_more, twice}}
 use Rattle.xbar_plan.proofs.lawful.groups.check_names.Goals as goal
 
 abbrev names : List TrunkGroup → List (List ℕ)
@@ -11,7 +11,7 @@ searched : (groups : List TrunkGroup) (item : ℕ) (name : List ℕ)
     → position (λ n. bytes_eq n name) (take item (names groups)) ≡ position (λ group. bytes_eq group.name name) (take item groups)
 searched groups item name =
     ap (position (λ n. bytes_eq n name)) (take-map (λ (group : TrunkGroup). group.name) item groups)
-    ∙ position_map (λ n. bytes_eq n name) (λ (group : TrunkGroup). group.name) (take item groups)
+    ∙ position-map (λ n. bytes_eq n name) (λ (group : TrunkGroup). group.name) (take item groups)
 
 name_at : (groups : List TrunkGroup) (item : ℕ) (group : TrunkGroup) → item < length groups → group ≡ get_or groups item group
     → (item < length (names groups)) × (group.name ≡ get_or (names groups) item group.name)

@@ -1,6 +1,6 @@
 use Rattle.std.proofs.Common.{Bool, inr, refl, sym, ◌∙◌, ap, length, nat_lt}
-use Rattle.std.{specs.List.list_all, proofs.lemmas.List.Folds.list_all_at}
-use Rattle.{xbar_equip.proofs.Lists.all_more, xbar_plan.{specs.Tables.Route, proofs.Failing.{none_fails, one_fails}}}
+use Rattle.{std.{specs.List.list_all, proofs.lemmas.List.Folds.list_all_at}, xbar_equip.proofs.Lists.all_more, xbar_plan.specs.Tables.Route}
+use Rattle.xbar_plan.proofs.Failing.{none_fails, one_fails}
 use Rattle.xbar_plan.proofs.lawful.routes.check_groups.Goals as goal
 
 pub returns-in-Some : goal.returns-in-Some

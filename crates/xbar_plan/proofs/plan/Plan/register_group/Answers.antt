@@ -22,3 +22,11 @@ returns-clause-range c =
     let lawful : IsLawful c.args.self.now = search rules in
     let same : c.unwrap_or.result ≡ register_group_of c.args.self.now = search rules in
     omega (arith, same, below_16 c.args.self.now lawful)
+
+pub returns-clause-there : goal.returns-clause-there
+returns-clause-there c =
+    let lawful : IsLawful c.args.self.now = search rules in
+    let same : c.unwrap_or.result ≡ register_group_of c.args.self.now = search rules in
+    let there = register_group-is c.args.self.now lawful in
+    let within = slice_get_within c.args.self.now.groups (register_group_of c.args.self.now) there.0 there.1 in
+    omega (arith, same, within)

@@ -1,6 +1,6 @@
 use Rattle.std.proofs.Common.{rules, refl, ◌≡◌, ◌<◌, ◌≤◌, sym, ◌∙◌, ap, slice_get, Some, None, option_copied}
 use Rattle.{std.proofs.lemmas.Option.{slice_get_within, slice_get_read}, xbar_plan.specs.{Lawful.IsLawful, Directory.IsDirectoryOf}}
-use Rattle.xbar_plan.proofs.LawfulDirectories.{groups-at, groups-none, groups-past, route-within}
+use Rattle.xbar_plan.proofs.{LawfulLookups.route_of-range, LawfulDirectories.{groups-at, groups-none, groups-past, route-within}}
 use Rattle.xbar_plan.proofs.plan.Plan.route.Goals as goal
 
 pub returns-then-code-ge1000-clause-route : goal.returns-then-code-ge1000-clause-route
@@ -32,3 +32,8 @@ returns-clause-route c =
     slice_get_read c.args.self.now.routes _ _ _ refl within (search rules) in
     let groups : c.groups.result.now ≡ c.index.result.now.groups = search rules in
     ap Some groups ∙ sym (groups-at c.args.self.now c.self.inside.directory shown c.args.code _ _ below some here)
+
+pub returns-clause-groups : goal.returns-clause-groups
+returns-clause-groups c =
+    let lawful : IsLawful c.args.self.now = search rules in
+    route_of-range c.args.self.now lawful c.args.code c.groups.result.now (sym (returns-clause-route c))

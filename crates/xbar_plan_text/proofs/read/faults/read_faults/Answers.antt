@@ -1,6 +1,6 @@
 use Rattle.std.proofs.Common.{rules, ◌≡◌, [], ◌∷◌, ◌++◌, sym, ◌∙◌, ap, Some}
 use Rattle.xbar_plan_text.{specs.Texts.fault_of, proofs.FirstItem.{one_more, refused_here}}
-use Rattle.xbar_plan.specs.declared.list.PlanList.TheVariants as PlanList
+use Rattle.xbar_plan.specs.declared.table_fault.PlanList.TheVariants as PlanList
 use Rattle.xbar_plan_text.proofs.read.faults.read_faults.Goals as goal
 
 pub returns-in_default : goal.returns-in_default

@@ -1,6 +1,6 @@
 use Rattle.std.proofs.Common.{rules, ◌≡◌, [], ◌∷◌, ◌++◌, sym, ◌∙◌, ap, Some}
 use Rattle.xbar_plan_text.{specs.Texts.station_of, proofs.FirstItem.{one_more, refused}}
-use Rattle.xbar_plan.specs.declared.list.PlanList.TheVariants as PlanList
+use Rattle.xbar_plan.specs.declared.table_fault.PlanList.TheVariants as PlanList
 use Rattle.xbar_plan_text.proofs.read.numbers.read_stations.Goals as goal
 
 pub returns-in-Err : goal.returns-in-Err

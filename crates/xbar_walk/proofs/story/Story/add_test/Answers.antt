@@ -1,5 +1,5 @@
 use Rattle.std.proofs.Common.{◌∷◌, ◌++◌, [], List, sym, ap, ◌∙◌}
-use Rattle.xbar_walk.{specs.declared.tested.Tested.Tested, proofs.{Joining.kept_joined, Storytelling.test_begins}}
+use Rattle.xbar_walk.{specs.declared.rows.Tested.Tested, proofs.{Joining.kept_joined, Storytelling.test_begins}}
 use Rattle.xbar_walk.proofs.story.Story.add_test.Goals as goal
 
 pub invariant_of-self : goal.invariant_of-self

@@ -1,5 +1,5 @@
 use Rattle.std.proofs.Common.{List, ◌∙◌, ap}
-use Rattle.xbar_walk.{specs.{Rows.shares_line, declared.tested.Tested.Tested}, proofs.Joining.last_leads}
+use Rattle.xbar_walk.{specs.{Rows.shares_line, declared.rows.Tested.Tested}, proofs.Joining.last_leads}
 use Rattle.xbar_walk.proofs.story.Story.shares_pending_line.Goals as goal
 
 pub returns-then-is_short : goal.returns-then-is_short
