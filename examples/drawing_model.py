@@ -1,5 +1,5 @@
 #!/usr/bin/env python3
-"""A model of `draw`, `draw --text` and `page`, after docs/FORMATS.md and the definitions of the crates svg, xbar_picture,
+"""A model of `draw`, `draw --text` and `page`, after docs/FORMATS.md and the definitions of the crates svg,
 xbar_office_text, xbar_office_drawing and xbar_page. It trusts the records (no audit), reads them and a plan, and replays the set of paths by
 what the records tell: a path that comes is put into the order of lines, one that is taken out goes, and a completing job gives its register back.
 The page's script it takes from bin/page_script.
@@ -78,8 +78,7 @@ def read(text):
     return [records[k] for k in sorted(records)]
 
 def after(plan, paths, r):
-    """the paths after a record, in the order of the set: by line, channel, place (with_path of xbar_equip/specs/Paths.antt puts a path there).
-    docs/FORMATS.md says that it is the order in which they were set up; so this model was first wrong."""
+    """the paths after a record, in the order of the set: by line, channel, place (with_path of xbar_equip/specs/Paths.antt puts a path there)."""
     if r.kind == "C" and r.end != "NOREGISTER":
         paths = [p for p in paths if not (p.line == r.of and plan.to_register(p))]
     if r.end == "RELEASED":

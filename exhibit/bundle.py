@@ -3,9 +3,11 @@
 bundle(engine_script, module=None) gives the page as text. exhibit/page/index.html is the frame, and has placeholders:
 
     @@STYLE@@   page/style.css
-    @@SCRIPT@@  page/*.js, in the order of page/order.txt, which has a name in each line
+    @@SCRIPT@@  page/main.js and the modules that it imports, as one script: each module stands behind those that it
+                imports, without the words `import` and `export`. A page from a file can't load modules
     @@ENGINE@@  the engine's script, a file such as engine/inside.js; in it @@MODULE@@ is the module, packed by gzip, in
                 base64
+    @@SOURCES@@ the sum of all that the page is made from, by sources.py
     @@TEXTS@@   an object: the content of each page/texts/*.json by its name without .json
     @@PLANS@@   an object: the text of each examples/*.toml by its name without .toml, and by 'example' the plan that
                 the program has if none is named
@@ -23,6 +25,8 @@ import json
 import os
 import re
 import sys
+
+from sources import source_sum
 
 HERE = os.path.dirname(os.path.realpath(__file__))
 ROOT = os.path.dirname(HERE)
@@ -105,13 +109,39 @@ def films():
     return as_json([film(it) for it in found])
 
 
+# What a module of the page imports, and what it declares for others.
+IMPORT = re.compile(r"^import \{([^}]*)\} from '\./([\w-]+\.js)';\n+", re.MULTILINE)
+DECLARED = re.compile(r"^(export )?(?:async )?(?:const|let|function\*?|class) (\$|\w+)", re.MULTILINE)
+
+
+def imported(name, above=()):
+    """The texts of a module and of those that it stands on, by name, each behind those that it imports."""
+    if name in above:
+        raise BundleError("exhibit/page: " + " imports ".join([*above, name]))
+    text, found = read(PAGE, name), {}
+    for names, other in IMPORT.findall(text):
+        found.update(imported(other, (*above, name)))
+        exported = {it for exports, it in DECLARED.findall(found[other]) if exports}
+        lacks = {it.strip() for it in names.split(",")} - exported - {""}
+        if lacks:
+            raise BundleError(f"exhibit/page/{name}: {other} doesn't export {', '.join(sorted(lacks))}")
+    return {**found, name: text}
+
+
 def script():
-    """The page's scripts. Each file of the folder has to be in order.txt, so that none is forgotten."""
-    order = read(PAGE, "order.txt").split()
+    """The page's modules as one script. Each file of the folder has to be among them, so that none is forgotten."""
+    found = imported("main.js")
     for name in names(PAGE, ".js"):
-        if f"{name}.js" not in order:
-            raise BundleError(f"exhibit/page/{name}.js isn't in exhibit/page/order.txt")
-    return without("</script", "\n".join(read(PAGE, name) for name in order), "a script of exhibit/page")
+        if f"{name}.js" not in found:
+            raise BundleError(f"no module that main.js stands on imports exhibit/page/{name}.js")
+    declared = [it for text in found.values() for _, it in DECLARED.findall(text)]
+    for it in declared:
+        if declared.count(it) > 1:
+            raise BundleError(f"exhibit/page: two modules declare {it}, and they become one script")
+    text = "\n".join(re.sub("^export ", "", IMPORT.sub("", it), flags=re.MULTILINE) for it in found.values())
+    if re.search("^(import|export)\\b", text, re.MULTILINE):
+        raise BundleError("exhibit/page: a module has an import or an export of another form than { names }")
+    return without("</script", text, "a script of exhibit/page")
 
 
 def style():
@@ -149,15 +179,17 @@ def filled(text, name, values):
 def bundle(engine_script, module=None):
     """The page with the engine's script, the path of a file, and the bytes of the module, if the script has one."""
     return filled(read(PAGE, "index.html"), "exhibit/page/index.html", {
-        "STYLE": style, "SCRIPT": script, "TEXTS": texts, "FILMS": films, "PLANS": plans,
+        "STYLE": style, "SCRIPT": script, "SOURCES": source_sum, "TEXTS": texts, "FILMS": films, "PLANS": plans,
         "ENGINE": lambda: engine(engine_script, module),
     })
 
 
 def main():
-    """Prints the page: bundle.py ENGINE_SCRIPT [MODULE]"""
+    """Prints the page: bundle.py ENGINE_SCRIPT [MODULE]. With --script, prints the page's own script alone."""
     module = None
     try:
+        if sys.argv[1:] == ["--script"]:
+            return sys.stdout.write(script())
         if len(sys.argv) > 2:
             with open(sys.argv[2], "rb") as it:
                 module = it.read()

@@ -15,9 +15,9 @@ FILES = {
     "index.html": "<style>@@STYLE@@</style><script>@@ENGINE@@</script><script>@@SCRIPT@@</script>"
                   "<p id=texts>@@TEXTS@@</p><p id=plans>@@PLANS@@</p><p id=films>@@FILMS@@</p>",
     "style.css": "p { margin: 0 }",
-    "order.txt": "second.js\nfirst.js\n",
-    "first.js": "last('@@STYLE@@')",
-    "second.js": "begin()",
+    "main.js": "// The last.\nimport { begin } from './first.js';\nimport {\n  other,\n} from './second.js';\n\nbegin('@@STYLE@@');\n",
+    "first.js": "import { other } from './second.js';\nexport const begin = other;\n",
+    "second.js": "export function other() {}\nconst own = 1;\n",
     "texts/en.json": '{"end": "</script><!--\\u2028", "all": "all"}',
     "texts/de.json": '{"all": "alle"}',
     "films.json": '[{"name": "a", "rows": "calls.csv", "plan": null, "kinds": "XX"},'
@@ -57,7 +57,8 @@ class Bundle(unittest.TestCase):
         page = self.made()
         self.assertTrue(page.startswith("<style>p { margin: 0 }</style>"))
         # What a value has is not looked at again.
-        self.assertIn("<script>begin()\nlast('@@STYLE@@')</script>", page)
+        self.assertIn("<script>function other() {}\nconst own = 1;\n\nconst begin = other;\n\n"
+                      "// The last.\nbegin('@@STYLE@@');\n</script>", page)
         packed = re.search('const MODULE = "(.*?)";', page)[1]
         self.assertEqual(gzip.decompress(base64.b64decode(packed)), b"module")
         self.assertEqual(page.count("</script"), 2)
@@ -66,10 +67,14 @@ class Bundle(unittest.TestCase):
     def test_what_is_refused(self):
         for name, text, said in (
             ("index.html", "@@WHAT@@", "@@WHAT@@"),
-            ("order.txt", "first.js", "second.js"),
-            ("order.txt", "first.js second.js third.js", "third.js"),
+            ("main.js", "import { begin, end } from './first.js';\n", "end"),
+            ("main.js", "import { begin } from './third.js';\n", "third.js"),
+            ("main.js", "begin();\n", "first.js"),
+            ("first.js", "import * as all from './second.js';\nexport const begin = 1;\n", "another form"),
+            ("first.js", "export const begin = 1;\nexport const own = 1;\n", "own"),
+            ("second.js", "import { begin } from './first.js';\nexport const other = 1;\n", "first.js imports second.js"),
             ("style.css", "</STYLE>", "style.css"),
-            ("first.js", "'</script>'", "</script"),
+            ("second.js", "export const other = '</script>';\n", "</script"),
             ("texts/en.json", "{", "en.json"),
             ("films.json", "{}", "films.json"),
             ("films.json", '[{"name": "a", "rows": "calls.csv", "plan": null}]', "films.json"),

@@ -35,7 +35,7 @@ class Choice(unittest.TestCase):
         self.assertTrue({"k1", "k2"} <= set(all_of_them))
         self.assertEqual(chosen(untimed=True), [name for name in all_of_them if name not in ("k1", "k2")])
         self.assertEqual((chosen("k"), chosen("k", untimed=True)), (["k1", "k2"], []))
-        self.assertEqual((chosen("f2,g"), chosen("f2,g", untimed=True)), (["f2", "g"], ["f2", "g"]))
+        self.assertEqual((chosen("f2,g"), chosen("f2,g", untimed=True)), (["f2", "g1", "g2"], ["f2", "g1", "g2"]))
 
     def test_the_rest(self):
         """What --only and --except choose by the same names are all scenarios, each once."""

@@ -1,5 +1,9 @@
 // What is closed in an office: its links, with their classes, and the figures of lines, places and crosspoints.
-class Closed {
+import { figure } from './elements.js';
+import { crosspointsOf, KINDS, lineText, pathParts } from './office.js';
+import { markerColour } from './layout.js';
+
+export class Closed {
   constructor(office, layout, labels) {
     Object.assign(this, { office, layout, labels, figures: [], lit: new Map() });
     this.owners = ownersOf(office);

@@ -1,8 +1,10 @@
 // Small helpers for elements.
-const $ = id => document.getElementById(id);
+import { t } from './texts.js';
+
+export const $ = id => document.getElementById(id);
 
 // An element with these attributes and contents. An attribute that begins with `on` is a listener.
-function element(name, attributes = {}, ...contents) {
+export function element(name, attributes = {}, ...contents) {
   const it = document.createElement(name);
   setAttributes(it, attributes);
   it.append(...contents);
@@ -10,7 +12,7 @@ function element(name, attributes = {}, ...contents) {
 }
 
 // The same for an element of SVG.
-function figure(name, attributes = {}, ...contents) {
+export function figure(name, attributes = {}, ...contents) {
   const it = document.createElementNS('http://www.w3.org/2000/svg', name);
   setAttributes(it, attributes);
   it.append(...contents);
@@ -28,20 +30,28 @@ function setAttributes(it, attributes) {
   }
 }
 
-function button(label, listener, attributes = {}) {
+export function button(label, listener, attributes = {}) {
   return element('button', { type: 'button', ...attributes, onclick: listener }, label);
 }
 
+// A button that acts as soon as a finger is down, so that two people can press two at once: a browser makes a click of one
+// finger alone. A click without a pointer is one by the keyboard.
+export function quickButton(label, listener, attributes = {}) {
+  const onpointerdown = event => { if (!event.button) listener(event); };
+  const onclick = event => { if (!event.detail) listener(event); };
+  return element('button', { type: 'button', ...attributes, onpointerdown, onclick }, label);
+}
+
 // A button whose label is a text of the page, by its key.
-function textButton(key, listener, attributes = {}) {
+export function textButton(key, listener, attributes = {}) {
   return button(element('span', { 'data-t': key }, t(key)), listener, attributes);
 }
 
-const buttons = (...contents) => element('p', { class: 'buttons' }, ...contents);
+export const buttons = (...contents) => element('p', { class: 'buttons' }, ...contents);
 
 // Replaces the children of an element one by one, and leaves those that are the same by key, so that
 // focus stays where it is. `make(item)` makes an element; `update(element, item)` brings it up to date.
-function keepList(parent, items, keyOf, make, update) {
+export function keepList(parent, items, keyOf, make, update) {
   const old = new Map([...parent.children].map(it => [it.dataset.key, it]));
   items.forEach((item, place) => {
     const key = String(keyOf(item));
@@ -58,10 +68,10 @@ function keepList(parent, items, keyOf, make, update) {
 }
 
 // Changes an element's text or attribute only if it differs, so that a screen reader isn't disturbed.
-function setText(it, text) { if (it.textContent !== text) it.textContent = text; }
-function setFlag(it, name, value) { if (it.hasAttribute(name) !== value) it.toggleAttribute(name, value); }
+export function setText(it, text) { if (it.textContent !== text) it.textContent = text; }
+export function setFlag(it, name, value) { if (it.hasAttribute(name) !== value) it.toggleAttribute(name, value); }
 
-const isThere = value => value !== null && value !== undefined;
+export const isThere = value => value !== null && value !== undefined;
 
-const stillWanted = matchMedia('(prefers-reduced-motion: reduce)');
-const pause = ms => new Promise(done => setTimeout(done, ms));
+export const stillWanted = matchMedia('(prefers-reduced-motion: reduce)');
+export const pause = ms => new Promise(done => setTimeout(done, ms));

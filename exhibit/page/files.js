@@ -1,4 +1,10 @@
 // Files: a plan or rows that a visitor opens or drops, and what can be saved of an office.
+import { t } from './texts.js';
+import { $, element, setText } from './elements.js';
+import { rowsOf, STATUS, TASK } from './session.js';
+import { faultWords, lackWords } from './words.js';
+import { RUSH_MARKERS } from './rush.js';
+
 const MOST_BYTES = 4 * 1024 * 1024;
 
 function save(name, type, text) {
@@ -9,7 +15,7 @@ function save(name, type, text) {
   setTimeout(() => URL.revokeObjectURL(link.href), 10000);
 }
 
-class Files {
+export class Files {
   constructor(page) {
     this.page = page;
     const stage = () => page.stage, session = () => page.stage.session;

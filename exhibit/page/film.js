@@ -1,10 +1,16 @@
 // Film: rows that play by themselves, step by step, with a sentence for each stage. The page brings some; a
 // lesson's own are added by dropping a file.
+import { t } from './texts.js';
+import { button, buttons, element, isThere, keepList, setText, textButton } from './elements.js';
+import { rowsOf, steps } from './session.js';
+import { actOf, endWords, jobWords, objectWords } from './words.js';
+import { Stage } from './stage.js';
+
 const MOST_PLAYED = 1000;
 
-class FilmStage extends Stage {
-  constructor(engine, changed) {
-    super('film', engine, changed);
+export class FilmStage extends Stage {
+  constructor(engine, changed, sound) {
+    super('film', engine, changed, sound);
     this.films = FILMS.map(it => ({ ...it, rows: rowsOf(it.rows) }));
     this.film = this.films[0];
     const choose = () => this.play(this.films[this.choice.selectedIndex]);
@@ -95,11 +101,11 @@ class FilmStage extends Stage {
   stageWords(office) {
     const event = office.events[office.events.length - 1];
     if (!event) return this.film.isBrought ? t('film.brought') : t(`film.${this.film.name}.says`);
-    const { marker, turn, record, holder, preferred } = event, object = event.object ? objectWords(event.object) : '';
+    const { marker, turn, record, holder, preferred } = event, object = event.object ? objectWords(event.object, office) : '';
     if (event.event === 'assignment') return t('stage.assigned', { marker, job: jobWords(event.job, office) });
     if (record) return t('stage.turn', { marker, turn, end: endWords(record, office) });
     if (isThere(holder)) return t('stage.held', { marker, other: holder, connector: object });
     if (isThere(preferred)) return t('stage.preferred', { marker, other: preferred, connector: object });
-    return t(`stage.${isThere(event.ended) ? 'ended' : event.act}`, { marker, object });
+    return t(`stage.${isThere(event.ended) ? 'ended' : actOf(event)}`, { marker, object });
   }
 }

@@ -1,8 +1,12 @@
 // The groups of trunks and registers: a lamp for each member, small ones where there are many, and who holds the
 // group's connector.
+import { t } from './texts.js';
+import { element, keepList } from './elements.js';
+import { markerColour } from './layout.js';
+
 const MANY_MEMBERS = 25;
 
-function showGroups(place, office) {
+export function showGroups(place, office) {
   const groups = office.plan.groups.map((group, number) => ({ ...group, number }));
   keepList(place, groups, group => `${group.number} ${group.name} ${group.members.length}`, makeGroup, (it, group) => {
     const connector = office.connector('group', group.number);

@@ -1,6 +1,10 @@
 // Who holds the frames and who requests them: an edge in the colour of the marker that holds a frame's connector, and
 // in the frame's bar a badge for it and one for each marker that requests the connector.
-class Holders {
+import { figure } from './elements.js';
+import { markerColour } from './layout.js';
+import { LETTER } from './labels.js';
+
+export class Holders {
   constructor(office, layout) {
     this.layout = layout;
     const height = layout.bar - 3, font = Math.max(11, height * 0.62), last = `${office.markers.length - 1}`;
@@ -25,10 +29,12 @@ class Holders {
   // As many badges as there is room for after the frame's number. Where that isn't enough, the last place says how many
   // more there are.
   badgesIn({ x, y, holder, requests }) {
-    const { frameWidth, bar } = this.layout, start = bar * 1.1, step = this.badge.width + 4;
-    const most = Math.max(1, Math.floor((frameWidth - start) / step));
+    const { frameWidth, bar } = this.layout, start = bar * 1.1;
     const holders = holder === null ? [] : [{ marker: holder, kind: 'holder' }];
     const all = [...holders, ...requests.map(marker => ({ marker, kind: 'asker' }))];
+    // Two badges always have room, if need be one over the other's edge.
+    const step = Math.min(this.badge.width + 4, all.length < 3 ? (frameWidth - start) / 2 : Infinity);
+    const most = Math.max(1, Math.floor((frameWidth - start) / step + 0.001));
     const shown = all.length > most ? all.slice(0, most - 1) : all, rest = all.length - shown.length;
     const at = place => ({ x: x + start + step * (place + 0.5), y: y + bar / 2 });
     const more = rest ? [figure('text', { ...at(shown.length), class: 'more' }, `+${rest}`)] : [];

@@ -1,13 +1,18 @@
 // The labels of lines and trunk places, each once, beside their own frame. Where a frame has more of them than fit one
 // below the other, neighbours share a row; where that is not enough either, calls keep their labels rather than
 // registers, those rather than idle lines, and the last row says how many more there are.
+import { figure } from './elements.js';
+import { pathParts } from './office.js';
+import { spread } from './layout.js';
+import { TEN } from './still.js';
+
 const RANKS = ['call', 'partial', 'register', 'idle'];
 
 // How wide a letter is, as a part of its height.
-const LETTER = 0.58;
+export const LETTER = 0.58;
 const MOST_IN_A_ROW = 3;
 
-class Labels {
+export class Labels {
   constructor(layout) {
     Object.assign(this, { layout, lines: new Map(), places: new Map() });
   }

@@ -1,6 +1,9 @@
 // Where the picture of an office has its parts, in CSS pixels, for a picture of this width and height. The
 // line link frames stand at the left, the trunk link frames at the right, one above the other.
-class Layout {
+import { figure } from './elements.js';
+import { KINDS, linkParts } from './office.js';
+
+export class Layout {
   constructor(width, height) {
     this.width = width;
     this.height = height;
@@ -55,28 +58,28 @@ class Layout {
 }
 
 // A curve between two points that leaves both level.
-function curve(from, to) {
+export function curve(from, to) {
   const middle = (from.x + to.x) / 2;
   return `M${from.x} ${from.y}C${middle} ${from.y} ${middle} ${to.y} ${to.x} ${to.y}`;
 }
 
 // A link in the picture, a junctor as a curve, with its name as its title unless it has another.
-function linkFigure(layout, link, kinds, { title = link, colour } = {}) {
+export function linkFigure(layout, link, kinds, { title = link, colour } = {}) {
   const { kind, digits } = linkParts(link), [from, to] = layout.link(kind, digits);
   const d = kind === 'JU' ? curve(from, to) : `M${from.x} ${from.y}L${to.x} ${to.y}`;
   const style = colour ? `stroke:${colour}` : null;
-  return figure('path', { d, class: `link ${kinds}`, style }, figure('title', {}, title));
+  return figure('path', { d, class: `link ${kinds}`, style, 'data-link': link }, figure('title', {}, title));
 }
 
 // The point of a curve, or of a straight line, at this part of its way: 0 at its beginning, 1 at its end.
-function pointAt(kind, [from, to], part) {
+export function pointAt(kind, [from, to], part) {
   const fall = kind === 'JU' ? part * part * (3 - 2 * part) : part;
   const across = kind === 'JU' ? 1.5 * part * (1 - part) + part ** 3 : part;
   return { x: from.x + (to.x - from.x) * across, y: from.y + (to.y - from.y) * fall };
 }
 
 // Moves labels apart that would overlap: each has its wanted `y`, and none leaves the range.
-function spread(labels, height, top, bottom) {
+export function spread(labels, height, top, bottom) {
   labels.sort((one, other) => one.y - other.y);
   let least = top + height / 2;
   for (const label of labels) {
@@ -93,7 +96,7 @@ function spread(labels, height, top, bottom) {
 
 // The colour of a marker. Neighbouring numbers are far apart on the circle of colours, without those of paths and of
 // links out of order: the hues are from 75 to 185, and from 235 to 365.
-function markerColour(number) {
+export function markerColour(number) {
   const hue = (10 + number * 148.328) % 240;
   return `oklch(0.82 0.14 ${(hue < 110 ? 75 : 125) + hue})`;
 }

@@ -1,7 +1,11 @@
 // The list of markers: what each is about, what it does next, what it holds, and buttons to step it.
-const MANY_MARKERS = 4;
+import { t } from './texts.js';
+import { button, buttons, element, keepList, setText, textButton } from './elements.js';
+import { MANY_MARKERS } from './office.js';
+import { markerColour } from './layout.js';
+import { jobWords, objectWords, stepWords } from './words.js';
 
-function showMarkers(list, stage) {
+export function showMarkers(list, stage) {
   const { office } = stage.session, many = office.markers.length > MANY_MARKERS;
   list.classList.toggle('many', many);
   const lastOf = new Map(office.events.map(event => [event.marker, event]));
@@ -29,10 +33,13 @@ function makeMarker(number, stage) {
 function updateMarker(it, marker, office, last) {
   const { job, next, held, requested } = marker;
   setText(it.querySelector('h3'), markerTitle(marker, office));
+  for (const name of ['step', 'finish']) {
+    it.querySelector(`.${name}`).setAttribute('aria-label', t(`marker.${name}`, { marker: marker.marker }));
+  }
   setText(it.querySelector('.next'), next ? t('next', { words: stepWords(next, office) }) : '');
   setText(it.querySelector('.last'), last?.event === 'step' ? t('last', { words: stepWords(last, office) }) : '');
-  const holds = held.length ? t('holds', { connectors: held.map(objectWords).join(', ') }) : '';
-  const wants = requested ? t('wants', { connector: objectWords(requested) }) : '';
+  const holds = held.length ? t('holds', { connectors: held.map(it => objectWords(it, office)).join(', ') }) : '';
+  const wants = requested ? t('wants', { connector: objectWords(requested, office) }) : '';
   setText(it.querySelector('.holds'), [holds, wants].filter(it => it).join(' '));
   it.classList.toggle('denied', last?.event === 'step' && (last.holder !== null || last.preferred !== null));
 }

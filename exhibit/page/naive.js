@@ -2,7 +2,9 @@
 // office's markers, each when the office's marker makes its own, but ask nobody before they read and write. So
 // two of them can pick the same register and the same links. Nothing here is proved, and nothing of it is
 // shown but in the part of the page that says so.
-class NaiveOffice {
+import { crosspointsOf, KINDS, linksOf, pathParts } from './office.js';
+
+export class NaiveOffice {
   constructor(plan) {
     this.plan = plan;
     this.fields = new Map();

@@ -1,12 +1,15 @@
 // An office as a look tells it. Everything that the page shows of an office comes from here.
-const KINDS = {
+export const KINDS = {
   lineSwitch: 'line switch',
   lineJunctor: 'line junctor switch',
   trunkJunctor: 'trunk junctor switch',
   trunkSwitch: 'trunk switch',
 };
 
-class Office {
+// An office with more markers than this is shown in less detail.
+export const MANY_MARKERS = 4;
+
+export class Office {
   constructor(look, hasRows) {
     Object.assign(this, look);
     this.look = look;
@@ -68,7 +71,7 @@ function closedCrosspoints(shown) {
 }
 
 // A line's number by its frame, switch and place on it.
-const lineText = (frame, number, place) => `${frame}${number}${Math.floor(place / 5)}${place % 5}`;
+export const lineText = (frame, number, place) => `${frame}${number}${Math.floor(place / 5)}${place % 5}`;
 
 // The whole paths that these crosspoints close: from a line over four crosspoints to a trunk place.
 function tracedPaths(closed) {
@@ -86,18 +89,18 @@ function tracedPaths(closed) {
 }
 
 // The parts of a path by its text, such as 3041-0-417.
-function pathParts(text) {
+export function pathParts(text) {
   const [line, channel, place] = text.split('-');
   const [l, s, group, file] = [...line].map(Number), [t, u, a] = [...place].map(Number), n = Number(channel);
   return { line, place, channel: n, text, l, s, n, t, u, a, x: 5 * group + file };
 }
 
 // The parts of a link by its name, such as JU340.
-const linkParts = link => ({ kind: link.slice(0, 2), digits: [...link.slice(2)].map(Number) });
+export const linkParts = link => ({ kind: link.slice(0, 2), digits: [...link.slice(2)].map(Number) });
 
 // The words and fields of a path's four crosspoints, from its line to its place.
-const crosspointsOf = ({ l, s, n, t, u }) =>
+export const crosspointsOf = ({ l, s, n, t, u }) =>
   [`${20 * l + s},${n}`, `${20 * l + 10 + n},${t}`, `${200 + 20 * t + 10 + n},${l}`, `${200 + 20 * t + u},${n}`];
 
 // The names of its three links.
-const linksOf = ({ l, s, n, t, u }) => [`LL${l}${s}${n}`, `JU${l}${t}${n}`, `TL${t}${u}${n}`];
+export const linksOf = ({ l, s, n, t, u }) => [`LL${l}${s}${n}`, `JU${l}${t}${n}`, `TL${t}${u}${n}`];

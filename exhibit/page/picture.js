@@ -1,10 +1,23 @@
 // The picture of an office: its frames, what is closed in them, and who holds what.
-class Picture {
+import { t, texts } from './texts.js';
+import { figure } from './elements.js';
+import { MANY_MARKERS } from './office.js';
+import { Layout, linkFigure, markerColour } from './layout.js';
+import { Still } from './still.js';
+import { Closed } from './closed.js';
+import { Labels } from './labels.js';
+import { trialOf, Trouble } from './trouble.js';
+import { Holders } from './holders.js';
+import { objectWords } from './words.js';
+
+export class Picture {
   constructor(place) {
     this.place = place;
     this.size = { width: 0, height: 0 };
     new ResizeObserver(([{ contentRect: { width, height } }]) => {
-      this.size = { width: Math.floor(width), height: Math.floor(height) };
+      // In units that grow with the window, so that all is drawn as on a window of 1920 by 1080.
+      this.unit = Math.max(1, parseFloat(getComputedStyle(document.documentElement).fontSize) / 18);
+      this.size = { width: Math.floor(width / this.unit), height: Math.floor(height / this.unit) };
       this.show();
     }).observe(place);
   }
@@ -15,7 +28,7 @@ class Picture {
     Object.assign(this, { office, lines, shared });
     const { width, height } = this.size;
     if (!office || width < 200 || height < 200) return;
-    const key = [width, height, texts.language, office.plan.faults].join();
+    const key = [this.unit, width, height, texts.language, office.plan.faults].join();
     if (this.key !== key) this.drawOffice(width, height, key);
     this.drawUse();
     this.place.setAttribute('aria-label', this.summary());
@@ -31,7 +44,7 @@ class Picture {
     this.paths = figure('g', {});
     this.use = figure('g', {});
     const style = `font-size:${this.layout.font}px;--stroke:${this.layout.stroke}px`;
-    const size = { width, height, viewBox: `0 0 ${width} ${height}`, style };
+    const size = { width: width * this.unit, height: height * this.unit, viewBox: `0 0 ${width} ${height}`, style };
     const all = [...still.figures, this.paths, ...faults, this.use];
     this.place.replaceChildren(figure('svg', { ...size, 'aria-hidden': 'true' }, ...all));
   }
@@ -68,7 +81,7 @@ class Picture {
   summary() {
     const { office } = this, most = 12;
     const path = it => t('picture.path', { line: office.lineName(it.line), place: office.placeName(it.place) });
-    const hold = it => t('picture.held', { marker: it.holder, connector: objectWords(it.connector) });
+    const hold = it => t('picture.held', { marker: it.holder, connector: objectWords(it.connector, this.office) });
     const held = office.connectors.filter(it => it.holder !== null).slice(0, most).map(hold);
     const paths = office.paths.slice(0, most).map(path);
     return [t('picture.summary', { count: office.paths.length }), ...paths, ...held].join('. ');

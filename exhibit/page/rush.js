@@ -1,13 +1,21 @@
 // Rush hour: 48 markers, and lines that lift, dial and hang up by chance. It ends after a number of jobs.
-const RUSH_MARKERS = 48, RUSH_JOBS = 1000, RUSH_LINES = 40, MOST_AT_ONCE = 28;
+import { t } from './texts.js';
+import { button, buttons, element, setText } from './elements.js';
+import { assignment, steps } from './session.js';
+import { Stage } from './stage.js';
+
+export const RUSH_MARKERS = 48;
+const RUSH_JOBS = 1000, RUSH_LINES = 40, MOST_AT_ONCE = 28;
 // How many rows are made before the next look, by the speed.
 const AT_ONCE = [1, 1, 1, 1, 1, 1, 3, 3, 8, 8, 20];
 
-class RushStage extends Stage {
-  constructor(engine, changed) {
-    super('rush', engine, changed);
+export class RushStage extends Stage {
+  constructor(engine, changed, sound) {
+    super('rush', engine, changed, sound);
     this.plan = PLANS.rush_hour;
     this.kinds = 'X'.repeat(RUSH_MARKERS);
+    this.auto = true;
+    this.speed = 10;
     this.told = element('p', { class: 'told', role: 'status' });
     const press = button(element('span', {}), () => this.toggle(), { id: 'pause', class: 'main' });
     this.place.append(buttons(press), this.told);
@@ -80,4 +88,4 @@ class RushStage extends Stage {
   }
 }
 
-const chosen = list => list[Math.floor(Math.random() * list.length)];
+export const chosen = list => list[Math.floor(Math.random() * list.length)];

@@ -1,9 +1,13 @@
 // What a visitor has made of an office: its plan, its markers' kinds, and rows of traffic. The rows are
 // all that there is; what stands is what the engine says of them. To step a marker is to add a row, to undo
 // is to take one back.
-const TASK = { replay: 0, audit: 4, draw: 6, lookAsJson: 9 };
-const STATUS = { fine: 0, markersRefused: 2, planRefused: 3, outOfMemory: 5, foundWrong: 7 };
-const MOST_STEPS = 9999, MOST_JOBS = 10000;
+import { MANY_MARKERS, Office } from './office.js';
+import { Trail } from './trail.js';
+
+export const TASK = { replay: 0, audit: 4, draw: 6, lookAsJson: 9 };
+export const STATUS = { fine: 0, markersRefused: 2, planRefused: 3, outOfMemory: 5, foundWrong: 7 };
+const MOST_STEPS = 9999;
+export const MOST_JOBS = 10000;
 
 // Rows as text. Neighbouring steps of one marker become one row, but for the last, whose events are shown.
 function rowsText(rows, splitLast = false) {
@@ -22,11 +26,11 @@ function rowsText(rows, splitLast = false) {
   return text;
 }
 
-const assignment = (marker, job, kind, args) => ({ job, text: `J,${marker},${job},${kind},${args}` });
-const steps = (marker, count) => ({ marker, steps: count });
+export const assignment = (marker, job, kind, args) => ({ job, text: `J,${marker},${job},${kind},${args}` });
+export const steps = (marker, count) => ({ marker, steps: count });
 
 // The rows of a text of traffic, for playing it: steps apart from other rows, which stay as they are.
-function rowsOf(text) {
+export function rowsOf(text) {
   return text.replace(/^\ufeff/, '').split(/\r\n|\r|\n/).filter(line => line).map(line => {
     const [, marker, count] = /^S,(\d+),(\d+),,$/.exec(line) ?? [];
     if (marker !== undefined) return steps(Number(marker), Number(count));
@@ -34,12 +38,13 @@ function rowsOf(text) {
   });
 }
 
-class Session {
+export class Session {
   constructor(engine) {
     this.engine = engine;
     this.queue = Promise.resolve();
     this.changed = () => {};
     this.timings = [];
+    this.trail = new Trail();
   }
 
   // Does one thing after another.
@@ -54,7 +59,7 @@ class Session {
     return this.inTurn(async () => {
       const found = await this.lookAt(plan, kinds, rows);
       if (found.fault) return found.fault;
-      Object.assign(this, { plan, kinds, rows, visitor, marks: [] });
+      Object.assign(this, { plan, kinds, rows, visitor, marks: [], trail: new Trail() });
       this.show(found);
       return null;
     });
@@ -71,12 +76,14 @@ class Session {
     const began = performance.now();
     const found = await this.lookAt(this.plan, this.kinds, [...this.rows, ...rows]);
     if (found.fault) return found.fault;
-    if (!isJoined) this.marks.push({ length: this.rows.length, visitor: this.visitor });
+    const trail = this.trail.length, mark = length => ({ length, trail, visitor: this.visitor });
+    if (!isJoined) this.marks.push(mark(this.rows.length));
     for (let at = 1; isEachAlone && at < rows.length; at++) {
-      this.marks.push({ length: this.rows.length + at, visitor: this.visitor });
+      this.marks.push(mark(this.rows.length + at));
     }
     this.rows.push(...rows);
     this.visitor = visitor;
+    this.trail.add(found.office);
     this.show(found, began);
     return null;
   }
@@ -87,6 +94,7 @@ class Session {
       if (!mark) return;
       this.rows.length = mark.length;
       this.visitor = mark.visitor;
+      this.trail.cut(mark.trail);
       const found = await this.lookAt(this.plan, this.kinds, this.rows);
       this.show(found);
     });
@@ -136,7 +144,7 @@ class Session {
 const lookCall = (plan, kinds, rows) => [TASK.lookAsJson, plan, kinds, rowsText(rows, true)];
 
 // Records, and their trouble cards, as the program writes them.
-const recordsText = records => records.map(recordText).join('') + cardsText(records);
+export const recordsText = records => records.map(recordText).join('') + cardsText(records);
 
 function recordText(it) {
   const { number, kind, line, dialled } = it.job;

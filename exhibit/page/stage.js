@@ -1,8 +1,16 @@
 // What the four modes have in common: an office of their own, a part of the panel, and markers that a visitor
 // steps by hand or that work by themselves.
-class Stage {
-  constructor(name, engine, changed) {
+import { t } from './texts.js';
+import { $, element } from './elements.js';
+import { Session } from './session.js';
+import { makeSteps, newVisitor } from './telephones.js';
+import { faultWords } from './words.js';
+import { judge } from './turns.js';
+
+export class Stage {
+  constructor(name, engine, changed, sound) {
     this.name = name;
+    this.sound = sound;
     this.session = new Session(engine);
     this.session.changed = () => { if (this.isOpen) changed(this); };
     this.session.failed = error => {

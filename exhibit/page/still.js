@@ -1,6 +1,10 @@
 // What never changes in the picture of an office: its frames, each with a bar for its number above its switches, and
 // the idle links, faint.
-class Still {
+import { t } from './texts.js';
+import { figure } from './elements.js';
+import { curve } from './layout.js';
+
+export class Still {
   constructor(layout) {
     this.layout = layout;
     const frames = TEN.flatMap(frame => [...this.frame(frame, 0), ...this.frame(frame, 2)]);
@@ -27,10 +31,11 @@ class Still {
   // A frame with its two columns of ten switches.
   frame(frame, column) {
     const { columns, frameWidth: width, frameHeight: height, bar } = this.layout, x = columns[column];
+    const name = `${column ? 'trunk' : 'line'} link frame:${frame}`;
     const y = this.layout.frameTop(frame), style = `font-size:${Math.max(13, bar * 0.82)}px`;
     return [
-      figure('rect', { x, y, width, height, rx: 3, class: 'frame' }),
-      figure('rect', { x, y, width, height: bar, rx: 3, class: 'bar' }),
+      figure('rect', { x, y, width, height, rx: 3, class: 'frame', 'data-frame': name }),
+      figure('rect', { x, y, width, height: bar, rx: 3, class: 'bar', 'data-frame': name }),
       figure('text', { x: x + bar * 0.55, y: y + bar / 2, class: 'number', style }, frame),
       this.links(frame, column),
       ...TEN.flatMap(number => [column, column + 1].map(end => this.switch(frame, end, number))),
@@ -40,7 +45,7 @@ class Still {
   switch(frame, column, number) {
     const { columns, row } = this.layout;
     const at = { cx: columns[column], cy: this.layout.y(frame, number) };
-    return figure('circle', { ...at, r: Math.min(2, row * 0.3), class: 'switch' });
+    return figure('circle', { ...at, r: Math.max(0.3, Math.min(2, row * 0.3)), class: 'switch' });
   }
 
   // The hundred links of a frame between its two kinds of switches.
@@ -51,4 +56,4 @@ class Still {
   }
 }
 
-const TEN = [...Array(10).keys()];
+export const TEN = [...Array(10).keys()];

@@ -1,14 +1,16 @@
 // The visitor's side of an office: telephones with receivers and digits, and wishes, the jobs that wait for an
 // idle marker. It is a plain object that a session keeps with its rows: {phones, wishes}. What a telephone
 // hears follows from the office and from this.
+import { assignment, MOST_JOBS, steps } from './session.js';
+
 const DIGITS = 7;
 
-const newVisitor = () => ({ phones: {}, wishes: [] });
+export const newVisitor = () => ({ phones: {}, wishes: [] });
 
-const phoneOf = (visitor, line) => visitor.phones[line] ?? { lifted: false, digits: '', job: null };
+export const phoneOf = (visitor, line) => visitor.phones[line] ?? { lifted: false, digits: '', job: null };
 
 // Does something to the visitor's side as one action: the jobs that it leads to are assigned to idle markers.
-function visit(session, change) {
+export function visit(session, change) {
   return session.inTurn(async () => {
     const visitor = structuredClone(session.visitor);
     change(visitor, session.office);
@@ -18,7 +20,7 @@ function visit(session, change) {
 }
 
 // Makes steps, and assigns the jobs that have waited for a marker that became idle, as the same action.
-function makeSteps(session, marker, count) {
+export function makeSteps(session, marker, count) {
   return session.inTurn(async () => {
     const fault = await session.addNow([steps(marker, count)]);
     if (fault || !session.visitor?.wishes?.length) return fault;
@@ -50,20 +52,20 @@ function assignWishes(visitor, session) {
 
 const takes = (kind, job) => kind === 'combined' || (kind === 'dial tone') === (job === 'D');
 
-function lift(visitor, office, line) {
+export function lift(visitor, office, line) {
   if (phoneOf(visitor, line).lifted) return;
   visitor.phones[line] = { lifted: true, digits: '', job: null };
   if (!isCalled(office, line)) visitor.wishes.push({ kind: 'D', line });
 }
 
-function hang(visitor, office, line) {
+export function hang(visitor, office, line) {
   if (!phoneOf(visitor, line).lifted) return;
   visitor.phones[line] = { lifted: false, digits: '', job: null };
   visitor.wishes = visitor.wishes.filter(wish => wish.line !== line);
   if (office.pathOf(line) || office.markerFor(line)) visitor.wishes.push({ kind: 'R', line });
 }
 
-function dial(visitor, office, line, digit) {
+export function dial(visitor, office, line, digit) {
   const phone = visitor.phones[line];
   if (!['tone', 'dialling'].includes(phoneState(visitor, office, line)) || phone.digits.length >= DIGITS) return;
   phone.digits += digit;
@@ -77,13 +79,13 @@ function isCalled(office, line) {
 }
 
 // The line at the other place of the trunk that a path of a call inside the office has.
-function partnerOf(office, path) {
+export function partnerOf(office, path) {
   const at = office.memberAt.get(path.place), place = at.group.members[at.member][1 - at.side];
   return office.paths.find(it => it.place === place)?.line;
 }
 
 // What a telephone does or hears: a word of the list in the texts (`phone.*`).
-function phoneState(visitor, office, line) {
+export function phoneState(visitor, office, line) {
   const phone = phoneOf(visitor, line), wish = visitor.wishes.find(it => it.line === line);
   const kind = wish?.kind ?? office.markerFor(line)?.job.kind;
   if (!phone.lifted) {

@@ -4,6 +4,7 @@ class Texts {
   constructor(all, language) {
     this.all = all;
     this.use(language);
+    this.atFirst = this.language;
   }
 
   get languages() { return Object.keys(this.all); }
@@ -11,6 +12,18 @@ class Texts {
   use(language) {
     this.language = this.all[language] ? language : 'en';
     this.own = this.all[this.language];
+  }
+
+  // Adds a language, or changes some texts of one.
+  add(name, its) {
+    this.all[name] = { name, ...this.all[name], ...its };
+    this.use(this.language);
+  }
+
+  // The language that the page begins with.
+  begin(language) {
+    this.use(language);
+    this.atFirst = this.language;
   }
 
   has(key) { return key in this.own || key in this.all.en; }
@@ -21,11 +34,12 @@ class Texts {
   }
 }
 
-const texts = new Texts(TEXTS, navigator.language.slice(0, 2));
-const t = (key, values) => texts.say(key, values);
+export const texts = new Texts(TEXTS, navigator.language.slice(0, 2));
+export const t = (key, values) => texts.say(key, values);
+export const hasText = key => texts.has(key);
 
 // Puts the texts into all elements that name one.
-function showTexts(root = document) {
+export function showTexts(root = document) {
   for (const it of root.querySelectorAll('[data-t]')) it.textContent = t(it.dataset.t);
   for (const it of root.querySelectorAll('[data-t-label]')) it.setAttribute('aria-label', t(it.dataset.tLabel));
 }

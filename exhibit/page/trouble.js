@@ -1,6 +1,10 @@
 // What is wrong in the picture of an office: the links out of order that the last turn met, and links that carry two
 // calls. The names of those that it met stand there while markers are few.
-class Trouble {
+import { figure } from './elements.js';
+import { linkParts, MANY_MARKERS, pathParts } from './office.js';
+import { linkFigure, pointAt, spread } from './layout.js';
+
+export class Trouble {
   constructor(office, shared, layout) {
     this.layout = layout;
     const last = office.records[office.records.length - 1], cards = last?.cards ?? [];
@@ -73,7 +77,7 @@ class Trouble {
 
 // The job of the last turn if it was for dial tone and met a link out of order. Of a call's two paths a card doesn't
 // say which it was.
-function trialOf({ records }) {
+export function trialOf({ records }) {
   const last = records[records.length - 1];
   return last?.cards.length && last.job.kind === 'D' ? last.job : null;
 }

@@ -1,7 +1,14 @@
 // The records in the order of their turns, the audit's verdict on them, and the trouble cards.
+import { t, texts } from './texts.js';
+import { element, keepList, textButton } from './elements.js';
+import { STATUS } from './session.js';
+import { linkParts } from './office.js';
+import { markerColour } from './layout.js';
+import { endWords, lackWords } from './words.js';
+
 const MOST_SHOWN = 200;
 
-function showTurns(list, office) {
+export function showTurns(list, office) {
   const shown = office.records.slice(-MOST_SHOWN), last = `${texts.language} ${office.records.length}`;
   if (list.dataset.last === last && shown.length === list.children.length) return;
   list.dataset.last = last;
@@ -12,7 +19,7 @@ function showTurns(list, office) {
 }
 
 // Keeps the end of a list in view when its height changes, unless the visitor has scrolled away from it.
-function stayAtEnd(list) {
+export function stayAtEnd(list) {
   let isAtEnd = true;
   list.onscroll = () => { isAtEnd = list.scrollHeight - list.scrollTop - list.clientHeight < 4; };
   new ResizeObserver(() => { if (isAtEnd) list.scrollTop = list.scrollHeight; }).observe(list);
@@ -26,7 +33,7 @@ function makeTurn(record, office) {
     element('span', { class: 'words' }, words, path ? element('code', {}, path) : ''));
 }
 
-function showCards(place, office) {
+export function showCards(place, office) {
   const cards = office.records.flatMap(record => record.cards.map(card => ({ record, card }))).slice(-MOST_SHOWN);
   place.parentElement.hidden = cards.length === 0;
   const keyOf = it => `${it.record.turn} ${it.card.trial} ${texts.language}`;
@@ -45,11 +52,19 @@ function makeCard({ record, card }) {
   return element('article', { class: 'card' },
     element('h3', {}, t('card.title'), element('b', {}, card.link)),
     element('p', {}, t('card.says', { turn, job: job.number, marker, trial: card.trial, link: t(`link.${kind}`) })),
-    element('div', { class: 'punched', 'aria-hidden': 'true' }, ...rows));
+    element('div', { class: 'punched', 'aria-hidden': 'true' }, ...rows),
+    textButton('card.print', event => printCard(event.target.closest('.card')), { class: 'print' }));
+}
+
+// Prints a card, and nothing else.
+function printCard(card) {
+  card.classList.add('printed');
+  window.print();
+  card.classList.remove('printed');
 }
 
 // Asks the audit about these records, and shows its answer, or why there is none.
-async function judge(session, records, verdict) {
+export async function judge(session, records, verdict) {
   const answer = await session.judge(records).catch(error => ({ error }));
   if (answer.status !== STATUS.fine && answer.status !== STATUS.foundWrong) return showUnjudged(answer, verdict);
   const lines = answer.text.trim().split('\n'), [, finding, place] = lines[0].split(',');

@@ -2,7 +2,7 @@
 
 import random, time
 
-from page import marker
+from page import duellist
 from scenario import scenario
 
 ORDERS_TO_BREAK = 6
@@ -33,7 +33,7 @@ def race(test, seed):
         steps = page.situation()["steps"]
         if not steps:
             break
-        page.press(marker(order.choose(steps)))
+        page.press(duellist(order.choose(steps)))
     page.press("#audit-both")
     page.browser.wait("return document.querySelector('#naive-verdict').textContent.trim()", 20)
 

@@ -21,9 +21,12 @@ FILMS = "return [...document.querySelectorAll('#film option')].map(option => opt
 
 # Whether a digit can be dialled: its hole or key is there, and the wheel has come back.
 AT_REST = """
-const wheel = document.querySelector(values[1]), digit = document.querySelector(values[0] + ":enabled");
-return digit && !wheel.getAnimations({subtree: true}).length;
+const dial = document.querySelector(values[1]), digit = document.querySelector(values[0] + ":enabled");
+return digit && !dial.hasAttribute("data-busy");
 """
+
+# Whether the wheel has come back, so that what was dialled has counted.
+HAS_DIALLED = "return !document.querySelector(values[0])?.hasAttribute('data-busy')"
 
 SELECT = """
 const list = document.querySelector(values[0]);
@@ -37,6 +40,11 @@ def phone(number, part=""):
     return f'.phone[data-number="{number}"] {part}'.strip()
 
 
+def duellist(number):
+    """The selector of the large button that steps a marker while a visitor tries to break the office."""
+    return f'.duellist[data-marker="{number}"]'
+
+
 def marker(number, part="button.step"):
     return f'.marker[data-marker="{number}"] {part}'
 
@@ -45,10 +53,16 @@ class Page:
     def __init__(self, browser, address):
         self.browser, self.address = browser, address
 
-    def open(self, fragment=""):
-        """Loads the page anew, and waits until it shows the empty office."""
+    def open(self, fragment="", shows_all=True):
+        """Loads the page anew, and waits until it shows the empty office; by default all of its control."""
         self.browser.open(self.address + fragment)
         self.browser.wait("return window.exhibit && await exhibit.idle().then(() => exhibit.look())", 60)
+        if shows_all:
+            self.show_all()
+
+    def show_all(self):
+        if self.browser.run("return document.body.dataset.level === 'call'"):
+            self.press("button.everything")
 
     def idle(self):
         self.browser.run("await exhibit.idle()")
@@ -129,9 +143,10 @@ class Page:
             if by == "keyboard":
                 self.browser.key(digit)
             else:
-                css = f'#{by} button[data-digit="{digit}"]'
-                self.browser.wait(AT_REST, 10, css, "#" + by)
+                css, dial = phone(number, f'.{by} button[data-digit="{digit}"]'), phone(number, ".rotary")
+                self.browser.wait(AT_REST, 10, css, dial)
                 self.browser.click(css)
+                self.browser.wait(HAS_DIALLED, 10, dial)
             self.idle()
 
     def finish(self, most=200):

@@ -3,7 +3,7 @@
 import os, time
 
 import plans
-from page import marker, phone
+from page import duellist, marker, phone
 from scenario import scenario
 from texts import SIZES
 
@@ -65,8 +65,8 @@ def two_calls_on_one_link(test):
     test.page.mode("break")
     test.page.press("#both")
     for name in ("0", "1") * 40:
-        if test.page.enabled(marker(name)):
-            test.page.press(marker(name))
+        if test.page.enabled(duellist(name)):
+            test.page.press(duellist(name))
     test.check(test.page.count("#naive .alarm"), "no link carries two calls")
     take(test, "two-calls-on-one-link")
 

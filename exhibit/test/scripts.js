@@ -2,6 +2,7 @@
 
 // The tests of exhibit/test_page: the page's scripts in node, with stand-ins for what a browser has.
 
+const { execFileSync } = require("child_process");
 const { readFileSync, readdirSync } = require("fs");
 const vm = require("vm");
 
@@ -9,6 +10,8 @@ const EXHIBIT = `${__dirname}/..`;
 const NEVER = new Promise(() => {});
 const read = (name) => readFileSync(`${EXHIBIT}/${name}`, "utf8");
 const TEXTS = Object.fromEntries(["en", "de"].map((name) => [name, JSON.parse(read(`page/texts/${name}.json`))]));
+
+const SCRIPT = execFileSync("python3", [`${EXHIBIT}/bundle.py`, "--script"], { encoding: "utf8" });
 
 let passed = 0, failed = 0;
 const tests = [];
@@ -27,7 +30,7 @@ function same(found, wanted, what) {
 class Element {
     constructor(name) {
         Object.assign(this, { name, attributes: {}, contents: [], listeners: {}, dataset: {}, style: {} });
-        this.classList = { add() {}, toggle() {} };
+        this.classList = { add() {}, remove() {}, toggle() {} };
         this.className = "";
     }
 
@@ -117,9 +120,7 @@ function world({ language = "en", hash = "" } = {}) {
         setTimeout: clock.setTimeout.bind(clock), clearTimeout: clock.clearTimeout.bind(clock),
     });
     context.window = context;
-    for (const name of read("page/order.txt").split(/\s+/).filter((it) => it)) {
-        vm.runInContext(read(`page/${name}`), context, { filename: name });
-    }
+    vm.runInContext(SCRIPT, context, { filename: "page" });
     return { clock, document, saved, get: (name) => vm.runInContext(name, context) };
 }
 
@@ -239,16 +240,22 @@ test("a file is told when the engine gives no answer", async () => {
 
 // The kiosk.
 
-// A page whose films begin when a test lets them. `plays` are the films that were asked for.
-function kiosk() {
-    const it = world({ hash: "#kiosk=1" }), plays = [], chosen = [];
+// A page whose films begin when a test lets them. `plays` are the films that were asked for, `done` what the kiosk had
+// the page do.
+function kiosk({ lifted = false } = {}) {
+    const it = world({ hash: "#kiosk=1" }), plays = [], done = [];
     const play = (name) => new Promise((begin) => plays.push({ name, begin }));
     const film = { films: ["one", "two", "three"], isOver: false, play };
-    const day = { begin: async () => {} };
-    const page = { stages: { film, day }, choose: async (name) => { chosen.push(name); } };
+    const session = { visitor: { phones: lifted ? { 3041: { lifted, digits: "", job: null } } : {} } };
+    const day = { lines: ["3041"], chosen: "3041", session, lift: async (line) => { done.push(`lift ${line}`); } };
+    const page = { stages: { film, day } };
+    page.choose = async (name) => { done.push(name); page.stage = page.stages[name]; };
+    page.reset = async () => { done.push("reset"); page.stage = day; };
+    page.stage = day;
     const made = new (it.get("Kiosk"))(page);
-    const touch = () => made.touched({ preventDefault() {}, stopPropagation() {} });
-    return { ...it, film, plays, chosen, touch };
+    page.sound = { mute() {} };
+    const sign = (type, more = {}) => made.noticed({ type, preventDefault() {}, stopPropagation() {}, ...more });
+    return { ...it, film, plays, done, sign, touch: () => sign("pointerdown") };
 }
 
 test("after a touch one film plays at a time, even if an earlier one has still to begin", async () => {
@@ -266,7 +273,7 @@ test("after a touch one film plays at a time, even if an earlier one has still t
 });
 
 test("a touch that comes again and again leaves no film behind", async () => {
-    const { clock, plays, chosen, touch } = kiosk();
+    const { clock, plays, done, touch } = kiosk();
     for (let time = 0; time < 5; time++) {
         await clock.run(1000);
         touch();
@@ -275,7 +282,7 @@ test("a touch that comes again and again leaves no film behind", async () => {
     same(plays.length, 5, "the films that were begun");
     await clock.run(900);
     same(plays.length, 5, "the films without a rest");
-    same(chosen.at(-1), "day", "the mode after a touch");
+    same(done.slice(-2), ["reset", "lift 3041"], "what is done after a touch");
 });
 
 test("films that no touch ends play one after another, each once", async () => {
@@ -368,6 +375,34 @@ test("what is asked for ahead anew isn't forgotten when the earlier one is given
     same(asked, ["one", "two", "one"], "what the server was asked");
 });
 
+test("everything is as at the beginning before the films, and for whoever ends them", async () => {
+    const { clock, done, touch } = kiosk();
+    await clock.run(1000);
+    same(done, ["reset", "film"], "what is done after a rest");
+    touch();
+    await settled();
+    same(done, ["reset", "film", "reset", "lift 3041"], "what is done after a touch");
+});
+
+test("a pointer that moves, a wheel and a slider show that somebody is there; a pointer that rests doesn't", async () => {
+    for (const [type, more, isThere] of [["pointermove", { movementX: 2, movementY: 0 }, true], ["wheel", {}, true],
+        ["input", {}, true], ["pointermove", { movementX: 0, movementY: 0 }, false]]) {
+        const { clock, plays, sign } = kiosk();
+        await clock.run(600);
+        sign(type, more);
+        await clock.run(600);
+        same(plays.length, isThere ? 0 : 1, `the films after ${type} ${JSON.stringify(more)}`);
+    }
+});
+
+test("films don't begin while a receiver is lifted, but for a long rest", async () => {
+    const { clock, plays } = kiosk({ lifted: true });
+    await clock.run(1500);
+    same(plays.length, 0, "the films after one rest");
+    await clock.run(1000);
+    same(plays.length, 1, "the films after two rests");
+});
+
 // What all scripts share.
 
 test("no style is an attribute, which the server's policy forbids", async () => {
@@ -387,6 +422,8 @@ test("each language has the texts that the scripts name", async () => {
     }
     same(Object.keys(TEXTS.de).sort(), Object.keys(TEXTS.en).sort(), "the keys of both languages");
 });
+
+require("./units.js")({ test, same, check, world, settled });
 
 async function main() {
     for (const { name, act } of tests) {

@@ -3,7 +3,7 @@
 import json, os, re
 
 import plans
-from page import marker
+from page import duellist, marker
 from scenario import scenario
 
 HERE = os.path.dirname(os.path.realpath(__file__))
@@ -97,7 +97,7 @@ def fill_with_life(test, mode):
         for _ in range(12):
             steps = page.situation()["steps"]
             for name in steps:
-                page.press(marker(name))
+                page.press(duellist(name) if mode == "break" else marker(name))
         if mode == "day":
             page.finish()
             page.press("#audit")

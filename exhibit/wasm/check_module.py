@@ -1,7 +1,7 @@
 #!/usr/bin/env python3
 """Checks that a module is as the page relies on, and says its size: check_module.py FILE.wasm
 
-It imports nothing, so it can do nothing but compute. It exports what exhibit/engine/calls.js calls. Its memory and its
+It imports nothing, so it can do nothing but compute. It exports what exhibit/engine/inside.js calls. Its memory and its
 table have indices of 32 bits, so that a browser needs no setting. Its stack lies below its data, so that one that
 overflows leaves the memory, as heap.c says."""
 
